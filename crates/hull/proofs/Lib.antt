@@ -1,0 +1,3 @@
+pub mod FaceTable
+pub mod WeightLaws
+pub mod Same

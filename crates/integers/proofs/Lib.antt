@@ -1,0 +1,9 @@
+pub mod Laws
+pub mod Order
+pub mod Ring
+pub mod Certificates
+pub mod Rounding
+pub mod Fits
+pub mod Roots
+pub mod Squares
+pub mod Examples
