@@ -10,11 +10,11 @@ use lib.ListN.{getD}
 use Rattle.hull.specs.declared.face.Face.{Face}
 use Rattle.hull.specs.Faces.{face, faces, no-face, rank, same, place, Small}
 
-left : (a b : Bool) → T (a && b) → T a
+pub left : (a b : Bool) → T (a && b) → T a
 left true b t = tt
 left false b t = t
 
-right : (a b : Bool) → T (a && b) → T b
+pub right : (a b : Bool) → T (a && b) → T b
 right true b t = t
 right false b t = absurd t
 

@@ -43,12 +43,12 @@ falls-sorted n [] h = tt
 falls-sorted n (w ∷ ws) h = falls-insert n w (sorted ws) (h .0) (falls-sorted n ws (h .1))
 
 -- ---- the weights on the axes
-size-of : (z : ℤ) (f : Face) → entry z f .amount ≡ natAbs z
+pub size-of : (z : ℤ) (f : Face) → entry z f .amount ≡ natAbs z
 size-of (pos n) f = refl
 size-of (negsuc n) f = refl
 
 -- an entry's face looks along its axis, one way or the other
-along-axis : (m : Face → ℕ) (z : ℤ) (f : Face) → m (behind f) ≡ m f → m (entry z f .on) ≡ m f
+pub along-axis : (m : Face → ℕ) (z : ℤ) (f : Face) → m (behind f) ≡ m f → m (entry z f .on) ≡ m f
 along-axis m (pos n) f e = refl
 along-axis m (negsuc n) f e = e
 

@@ -14,7 +14,33 @@ const WEIGHT_UNIT: u32 = 64;
 
 // Where a face stands in the list of faces, by its entries in base 3; no face stands past the end.
 const PLACES: [u8; 27] = [
-    25, 9, 24, 13, 1, 12, 23, 8, 22, 17, 3, 16, 5, 26, 4, 15, 2, 14, 21, 7, 20, 11, 0, 10, 19, 6, 18,
+    25,
+    9,
+    24,
+    13,
+    1,
+    12,
+    23,
+    8,
+    22,
+    17,
+    3,
+    16,
+    5,
+    26,
+    4,
+    15,
+    2,
+    14,
+    21,
+    7,
+    20,
+    11,
+    0,
+    10,
+    19,
+    6,
+    18,
 ];
 
 // The face that looks the other way.

@@ -14,7 +14,9 @@ use super::face::Face;
 const LIMIT: u64 = 2415919104;
 
 const X_AXIS: Face = Face { x: 1, y: 0, z: 0 };
+
 const Y_AXIS: Face = Face { x: 0, y: 1, z: 0 };
+
 const Z_AXIS: Face = Face { x: 0, y: 0, z: 1 };
 
 fn square(a: u64) -> u64

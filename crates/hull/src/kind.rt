@@ -10,14 +10,17 @@ ghost use Rattle.hull.specs.Measures.{Covers, Rounds, Spread, Tight};
 use super::corner::Corner;
 use super::direction::Direction;
 
-// A kind of bounding volume, by its support function: how far a hull of the kind reaches along a direction.
-pub trait Hull: Copy {
-    // the kind's word in a job
-    const WORD: &'static [u8];
+// The names of a kind.
+pub trait Named {
+    // its word in a job
+    const WORD: &'static str;
 
     // its number of faces
     const FACES: usize;
+}
 
+// A kind of bounding volume, by its support function: how far a hull of the kind reaches along a direction.
+pub trait Hull: Copy + Named {
     // the hull of one corner, and a hull with one more corner
     ghost begun: { Corner → Self };
 

@@ -11,3 +11,4 @@ pub use direction::Direction;
 pub use face::Face;
 pub use face::FaceWeight;
 pub use kind::Hull;
+pub use kind::Named;

@@ -20,7 +20,6 @@ narrow z f = omega (arith, ints)
 bound : (c : need.Start) → natAbs (c .args .a *ℤ c .args .b) ≤ 2 ^ 94
 bound c = small-mul (c .args .a) (c .args .b) (2 ^ 63) (2 ^ 31) (wide (c .args .a) (c .fits .a)) (narrow (c .args .b) (c .fits .b))
 
-
 pub returns : need.returns
 returns c =
     let fa = c .fits .a in

@@ -1,0 +1,6 @@
+pub mod Shares
+pub mod Tops
+pub mod Sums
+pub mod FacedLaws
+pub mod Decompositions
+pub mod Tables
