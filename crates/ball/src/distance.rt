@@ -20,7 +20,7 @@ fn squared_distance(p: Corner, q: Corner) -> u64
 }
 
 // The distance, rounded up.
-pub fn distance(p: Corner, q: Corner) -> u32
+pub(crate) fn distance(p: Corner, q: Corner) -> u32
     ensures { λ r. ⌜ r ≡ distance-up p q ⌝ }
 {
     let sum = squared_distance(p, q);

@@ -11,7 +11,7 @@ use hull::Direction;
 const REACH_UNIT: i128 = 256;
 
 // The product of a direction and a corner.
-pub fn dot(u: &Direction, p: Corner) -> i128
+pub(crate) fn dot(u: &Direction, p: Corner) -> i128
     ensures value { λ r. ⌜ r ≡ along (now (u .entry)) p ⌝ }
     ensures bound { λ r. ⌜ natAbs r ≤ 3 * (direction-limit * corner-limit) ⌝ }
 {
@@ -19,7 +19,7 @@ pub fn dot(u: &Direction, p: Corner) -> i128
 }
 
 // A radius times a length.
-pub fn extent(radius: u32, length: u32) -> i128
+pub(crate) fn extent(radius: u32, length: u32) -> i128
     ensures value { λ r. ⌜ r ≡ pos (radius * length) ⌝ }
     ensures bound { λ r. ⌜ natAbs r ≤ 2 ^ 64 ⌝ }
 {
@@ -27,7 +27,7 @@ pub fn extent(radius: u32, length: u32) -> i128
 }
 
 // A number in units of a reach, rounded up.
-pub fn in_units(z: i128) -> i64
+pub(crate) fn in_units(z: i128) -> i64
     requires { ⌜ natAbs z ≤ 2 ^ 65 ⌝ }
     ensures { λ r. ⌜ r ≡ div-up z reach-unit ⌝ }
 {

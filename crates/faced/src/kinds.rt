@@ -1,4 +1,6 @@
 // The box and the 26-faced hull as kinds of hull.
+ghost use mathlib.Core.Path.{_≡_};
+ghost use Rattle.support.specs.Exchange.{InAnyOrder};
 ghost use Rattle.faced.specs.Hulls.{box-begun, box-grown, box-reach, box-unrounded, BoxFits, many-begun, many-grown, many-reach, many-unrounded, ManyFits};
 use super::reach::reach_along;
 use super::supports::raise;
@@ -39,9 +41,9 @@ pub impl Hull for BoxHull as BoxKind {
     }
 
     fn more(self, p: Corner) -> BoxHull {
-        let mut supports = self.supports;
-        raise(&mut supports, &p);
-        BoxHull { supports }
+        let mut grown = self.supports;
+        raise(&mut grown, &p);
+        BoxHull { supports: grown }
     }
 
     fn reach(&self, u: &Direction) -> i64 {
@@ -81,12 +83,15 @@ pub impl Hull for ManyHull as ManyKind {
     }
 
     fn more(self, p: Corner) -> ManyHull {
-        let mut supports = self.supports;
-        raise(&mut supports, &p);
-        ManyHull { supports }
+        let mut grown = self.supports;
+        raise(&mut grown, &p);
+        ManyHull { supports: grown }
     }
 
-    fn reach(&self, u: &Direction) -> i64 {
+    fn reach(&self, u: &Direction) -> i64
+        ensures value { λ r. ⌜ r ≡ many-reach (now (self .entry)) (now (u .entry)) ⌝ }
+        ensures free { λ r. ⌜ InAnyOrder (now (self .entry) .supports) (now (u .entry) .x) (now (u .entry) .y) (now (u .entry) .z) r ⌝ }
+    {
         reach_along(&self.supports, &u.many_weights)
     }
 }

@@ -24,7 +24,7 @@ fn part(w: &FaceWeight, g: i16) -> i64
 }
 
 // The sum of the three parts.
-pub fn reach_along<const N: usize>(values: &[i16; N], weights: &[FaceWeight; 3]) -> i64
+pub(crate) fn reach_along<const N: usize>(values: &[i16; N], weights: &[FaceWeight; 3]) -> i64
     requires { ⌜ All (λ (w : Kept). w .face < N) (now weights) ⌝ }
     ensures { λ r. ⌜ r ≡ terms (now (values .entry)) (now (weights .entry)) ⌝ }
 {

@@ -86,7 +86,7 @@ fn support_of(face: usize, p: &Corner) -> i16
 }
 
 // Support values with one more corner.
-pub fn raise(values: &mut [i16], p: &Corner)
+pub(crate) fn raise(values: &mut [i16], p: &Corner)
     requires { ⌜ length (now values) ≤ 26 ⌝ }
     ensures { λ _. ⌜ now (values .exit) ≡ raised (now (values .entry)) (now (p .entry)) ⌝ }
 {

@@ -56,7 +56,7 @@ fn opposite(f: Face) -> Face
 }
 
 // The size of an entry, on the axis of its sign.
-pub fn entry_on(z: i64, axis: Face) -> Weight
+pub(crate) fn entry_on(z: i64, axis: Face) -> Weight
     requires { ⌜ natAbs z ≤ direction-limit ⌝ ∗ ⌜ Small axis ⌝ }
     ensures value { λ r. ⌜ r ≡ entry z axis ⌝ }
     ensures bound { λ r. ⌜ r .amount ≤ direction-limit ⌝ }
@@ -104,7 +104,7 @@ fn place_of(f: Face) -> u8
 }
 
 // A weight as a direction keeps it.
-pub fn divide(w: Weight) -> FaceWeight
+pub(crate) fn divide(w: Weight) -> FaceWeight
     requires { ⌜ w .amount ≤ direction-limit ⌝ ∗ ⌜ Small (w .on) ⌝ }
     ensures { λ r. ⌜ r ≡ divided w ⌝ }
 {
@@ -151,7 +151,7 @@ fn stack(p: Weight, q: Weight, r: Weight) -> [FaceWeight; 3]
 }
 
 // The weights of a direction on the 26 faces, from those on the axes.
-pub fn on_many(a: Weight, b: Weight, c: Weight) -> [FaceWeight; 3]
+pub(crate) fn on_many(a: Weight, b: Weight, c: Weight) -> [FaceWeight; 3]
     requires { ⌜ Ranked (sorted (a ∷ b ∷ c ∷ [])) ⌝ }
     ensures { λ s. ⌜ s ≡ map divided (stacked (sorted (a ∷ b ∷ c ∷ []))) ⌝ }
 {

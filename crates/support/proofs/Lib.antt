@@ -4,3 +4,4 @@ pub mod Sums
 pub mod FacedLaws
 pub mod Decompositions
 pub mod Tables
+pub mod Exchange

@@ -8,6 +8,7 @@ use Rattle.std.proofs.shelf.Signed.{toZ-ofZ}
 use Rattle.hull.specs.declared.face.FaceWeight.{FaceWeight}
 use Rattle.hull.specs.Weights.{many-weights}
 use Rattle.support.proofs.Decompositions.{many-decomposes}
+use Rattle.support.proofs.Exchange.{in-any-order}
 use Rattle.faced.specs.Terms.{terms}
 use Rattle.faced.proofs.Reaches.{terms-reach, faces-within}
 use Rattle.faced.proofs.kinds.ManyKind.reach.Needs as need
@@ -20,4 +21,5 @@ reach-along-requires c κs =
 pub returns : need.returns
 returns c =
     let u = c .args .u .now in
-    toZ-ofZ w64 (c .reach-along .result) (record { sfits = c .reach-along .ok }) ∙ c .reach-along .ensures ∙ ap (terms (c .args .self .now .supports)) (u .«on_many») ∙ terms-reach (c .args .self .now .supports) (many-weights (u .x) (u .y) (u .z))
+    let e = toZ-ofZ w64 (c .reach-along .result) (record { sfits = c .reach-along .ok }) ∙ c .reach-along .ensures ∙ ap (terms (c .args .self .now .supports)) (u .«on_many») ∙ terms-reach (c .args .self .now .supports) (many-weights (u .x) (u .y) (u .z)) in
+    record { value = e; free = in-any-order (c .args .self .now .supports) (u .x) (u .y) (u .z) _ e }
