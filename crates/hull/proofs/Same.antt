@@ -6,7 +6,8 @@ use Prim.Native.Nat.{ℕ, _≤_}
 use lib.IntN.{ℤ, natAbs}
 use Rattle.integers.specs.Roots.{root-up}
 use Rattle.hull.specs.declared.direction.Direction.{Direction}
-use Rattle.hull.specs.Units.{direction-limit, squared}
+use Rattle.hull.specs.declared.corner.Corner.{Corner}
+use Rattle.hull.specs.Units.{corner-limit, direction-limit, squared}
 use Rattle.hull.specs.Weights.{box-weights, many-weights, divided}
 use Rattle.hull.specs.Directions.{direction}
 
@@ -31,3 +32,7 @@ module _ (u : Direction) where
 pub same-direction : (u v : Direction) → u .x ≡ v .x → u .y ≡ v .y → u .z ≡ v .z → u ≡ v
 same-direction u v ex ey ez =
     sym (own u) ∙ same-made direction-limit direction (u .x) (u .y) (u .z) (v .x) (v .y) (v .z) (u .«x_in») (u .«y_in») (u .«z_in») (v .«x_in») (v .«y_in») (v .«z_in») ex ey ez ∙ own v
+
+pub same-corner : (v w : Corner) → v .x ≡ w .x → v .y ≡ w .y → v .z ≡ w .z → v ≡ w
+same-corner v w ex ey ez =
+    same-made corner-limit (λ x y z f g h. record { x = x; y = y; z = z; «x_in» = f; «y_in» = g; «z_in» = h }) (v .x) (v .y) (v .z) (w .x) (w .y) (w .z) (v .«x_in») (v .«y_in») (v .«z_in») (w .«x_in») (w .«y_in») (w .«z_in») ex ey ez
