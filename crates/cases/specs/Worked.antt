@@ -5,6 +5,7 @@ use Prim.Native.Nat.{ℕ}
 use lib.Dec.{T, leb, leb→le}
 use lib.IntN.{ℤ, pos, negsuc, natAbs}
 use Rattle.integers.specs.Rounding.{div-down}
+use Rattle.pairs.specs.Units.{axis-unit}
 use Rattle.hull.specs.declared.corner.Corner.{Corner}
 use Rattle.hull.specs.declared.direction.Direction.{Direction}
 use Rattle.hull.specs.Units.{corner-limit, direction-limit}
@@ -45,4 +46,4 @@ pub record Worked : Type 0 where
   -- with (1, 1, 0) its radius is 2
   pub radius-2 : ball-with (corner (pos 1) (pos 1) (pos 0) tt tt tt) .radius ≡ 2
   -- an axis entry from -1 is -1, and from 4,095 it is 0
-  pub axis-entries : (div-down (negsuc 0) 4096 ≡ negsuc 0) × (div-down (pos 4095) 4096 ≡ pos 0)
+  pub axis-entries : (div-down (negsuc 0) axis-unit ≡ negsuc 0) × (div-down (pos 4095) axis-unit ≡ pos 0)
