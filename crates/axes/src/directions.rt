@@ -16,7 +16,7 @@ const W: i64 = 1048576;
 const SHIFT_RATIO: i64 = 1;
 
 // The product of an axis and three numbers.
-pub fn product(l: &Axis, x: i32, y: i32, z: i32) -> i64
+pub(crate) fn product(l: &Axis, x: i32, y: i32, z: i32) -> i64
     ensures { λ r. ⌜ r ≡ along (now (l .entry)) x y z ⌝ }
 {
     integers::dot(l.x as i64, l.y as i64, l.z as i64, x, y, z) as i64
@@ -56,7 +56,7 @@ fn reverse(u: &Direction) -> Direction
 }
 
 // What a test along the axis needs.
-pub fn separating_axis(p: &Placement, l: &Axis) -> SeparatingAxis
+pub(crate) fn separating_axis(p: &Placement, l: &Axis) -> SeparatingAxis
     ensures { λ s. ⌜ s ≡ rounded-axis (now (p .entry)) (now (l .entry)) ⌝ }
 {
     let moved_up = moved(p, l);
