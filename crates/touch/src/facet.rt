@@ -15,7 +15,7 @@ pub struct Facet {
 
 impl Facet {
     // The facet with these numbers, where each is in its range.
-    pub fn new(n: [i64; 9]) -> Option<Facet>
+    pub(crate) fn new(n: [i64; 9]) -> Option<Facet>
         ensures { λ r. ⌜ BySome r (InRange n → ⊥) (λ f. entries f ≡ n) ⌝ }
     {
         let a = Corner::new(n[0], n[1], n[2])?;
@@ -25,7 +25,7 @@ impl Facet {
     }
 
     // The hull of the three corners.
-    pub fn hull<H: Hull>(&self) -> H
+    pub(crate) fn hull<H: Hull>(&self) -> H
         ensures { λ h. ⌜ fits h (corners (now (self .entry))) ⌝ }
     {
         H::first(self.a).more(self.b).more(self.c)

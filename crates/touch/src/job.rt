@@ -159,7 +159,7 @@ fn last_line(heap: Global, stop: Stop) -> Result<String, AllocError>
 }
 
 // The report on a job.
-pub fn answer(heap: Global, job: &[u8]) -> Result<String, AllocError>
+pub(crate) fn answer(heap: Global, job: &[u8]) -> Result<String, AllocError>
     ensures { λ r. ⌜ (job-limit < length (now (job .entry)) → made r (λ s. string-bytes s ≡ stop-line too-long)) ⌝ }
 {
     let mut report = String::new(heap);

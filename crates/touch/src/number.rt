@@ -8,7 +8,7 @@ ghost use Rattle.touch.specs.Numbers.{Count, negative, digits, Number, amount}
 const MOST_DIGITS: usize = 10;
 
 // The value of a word of 1 to 10 digits.
-pub fn read_count(word: &[u8]) -> Option<u64>
+pub(crate) fn read_count(word: &[u8]) -> Option<u64>
     ensures cases { λ r. ⌜ BySome r (Count (now (word .entry)) → ⊥) (λ n. Count (now (word .entry)) × (n ≡ value 10 (now (word .entry)))) ⌝ }
     ensures bound { λ r. ⌜ BySome r (Unit {0}) (λ n. n < 10 ^ 10) ⌝ }
 {
@@ -37,7 +37,7 @@ fn split_minus(word: &[u8]) -> (bool, &[u8])
 }
 
 // The value of a word of 1 to 10 digits, with or without a minus in front.
-pub fn read_number(word: &[u8]) -> Option<i64>
+pub(crate) fn read_number(word: &[u8]) -> Option<i64>
     ensures { λ r. ⌜ BySome r (Number (now (word .entry)) → ⊥) (λ n. Number (now (word .entry)) × (n ≡ amount (now (word .entry)))) ⌝ }
 {
     let (is_negative, rest) = split_minus(word);

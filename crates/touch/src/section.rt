@@ -16,7 +16,7 @@ pub enum Section {
 
 impl Section {
     // The word that opens the section.
-    pub fn opening_word(self) -> &'static str
+    pub(crate) fn opening_word(self) -> &'static str
         ensures { λ r. ⌜ now r ≡ opening self ⌝ }
     {
         match self {

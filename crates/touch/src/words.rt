@@ -36,7 +36,7 @@ fn is_separator(byte: u8) -> bool
 }
 
 // Whether the word is this text.
-pub fn is_text(word: &[u8], text: &str) -> bool
+pub(crate) fn is_text(word: &[u8], text: &str) -> bool
     ensures { λ r. ⌜ Decides r (now (word .entry) ≡ now (text .entry)) ⌝ }
 {
     word == text.as_bytes()
@@ -78,7 +78,7 @@ fn split_word(bytes: &[u8]) -> (&[u8], &[u8])
 
 impl<'a> Words<'a> {
     // The words of a job.
-    pub fn new(job: &'a [u8]) -> Words<'a>
+    pub(crate) fn new(job: &'a [u8]) -> Words<'a>
         requires { ⌜ length (now job) ≤ job-limit ⌝ }
         ensures { λ r. ⌜ now (r .rest) ≡ now (job .entry) ⌝ }
     {
@@ -105,7 +105,7 @@ impl<'a> Words<'a> {
     }
 
     // The refusal of the word that was taken last.
-    pub fn refuse(&self, fault: Fault) -> Refusal
+    pub(crate) fn refuse(&self, fault: Fault) -> Refusal
         ensures { λ r. ⌜ Refused fault (now (self .entry) .section) (now (self .entry) .taken) r ⌝ }
     {
         Refusal {
@@ -116,7 +116,7 @@ impl<'a> Words<'a> {
     }
 
     // The word that is due.
-    pub fn word(&mut self) -> Result<&'a [u8], Refusal>
+    pub(crate) fn word(&mut self) -> Result<&'a [u8], Refusal>
         ensures section { λ _. ⌜ now (self .exit) .section ≡ now (self .entry) .section ⌝ }
         ensures cases { λ r. ⌜ ByOk r (λ w. (words (now (now (self .entry) .rest)) ≡ now w ∷ words (now (now (self .exit) .rest))) × (now (self .exit) .taken ≡ now (self .entry) .taken + 1)) (λ e. (words (now (now (self .entry) .rest)) ≡ []) × Refused WrongLength (now (self .entry) .section) (now (self .entry) .taken + 1) e) ⌝ }
     {
@@ -131,7 +131,7 @@ impl<'a> Words<'a> {
     }
 
     // The word that opens a section is due.
-    pub fn open(&mut self, section: Section) -> Result<(), Refusal>
+    pub(crate) fn open(&mut self, section: Section) -> Result<(), Refusal>
         ensures section { λ _. ⌜ now (self .exit) .section ≡ section ⌝ }
         ensures cases { λ r. ⌜ ByOk r (λ _. (words (now (now (self .entry) .rest)) ≡ opening section ∷ words (now (now (self .exit) .rest))) × (now (self .exit) .taken ≡ 1)) (λ e. Misfit (λ w. w ≡ opening section) (words (now (now (self .entry) .rest))) section 1 e) ⌝ }
     {
@@ -146,7 +146,7 @@ impl<'a> Words<'a> {
     }
 
     // A count is due.
-    pub fn count(&mut self) -> Result<u64, Refusal>
+    pub(crate) fn count(&mut self) -> Result<u64, Refusal>
         ensures section { λ _. ⌜ now (self .exit) .section ≡ now (self .entry) .section ⌝ }
         ensures cases { λ r. ⌜ ByOk r (λ n. Counted (words (now (now (self .entry) .rest))) n (words (now (now (self .exit) .rest))) × (now (self .exit) .taken ≡ now (self .entry) .taken + 1)) (λ e. Misfit Count (words (now (now (self .entry) .rest))) (now (self .entry) .section) (now (self .entry) .taken + 1) e) ⌝ }
     {
@@ -158,7 +158,7 @@ impl<'a> Words<'a> {
     }
 
     // A number is due.
-    pub fn number(&mut self) -> Result<i64, Refusal>
+    pub(crate) fn number(&mut self) -> Result<i64, Refusal>
         ensures section { λ _. ⌜ now (self .exit) .section ≡ now (self .entry) .section ⌝ }
         ensures cases { λ r. ⌜ ByOk r (λ n. Numbered (words (now (now (self .entry) .rest))) n (words (now (now (self .exit) .rest))) × (now (self .exit) .taken ≡ now (self .entry) .taken + 1)) (λ e. Misfit Number (words (now (now (self .entry) .rest))) (now (self .entry) .section) (now (self .entry) .taken + 1) e) ⌝ }
     {
@@ -170,7 +170,7 @@ impl<'a> Words<'a> {
     }
 
     // So many numbers are due.
-    pub fn numbers<const N: usize>(&mut self) -> Result<[i64; N], Refusal>
+    pub(crate) fn numbers<const N: usize>(&mut self) -> Result<[i64; N], Refusal>
         ensures section { λ _. ⌜ now (self .exit) .section ≡ now (self .entry) .section ⌝ }
         ensures cases { λ r. ⌜ ByOk r (λ ns. AllNumbered (words (now (now (self .entry) .rest))) ns (words (now (now (self .exit) .rest))) × (now (self .exit) .taken ≡ now (self .entry) .taken + N)) (λ e. BrokenOff N (words (now (now (self .entry) .rest))) (now (self .entry) .section) (now (self .entry) .taken) e) ⌝ }
     {
@@ -182,7 +182,7 @@ impl<'a> Words<'a> {
     }
 
     // No word is due any more.
-    pub fn end(&mut self) -> Result<(), Refusal>
+    pub(crate) fn end(&mut self) -> Result<(), Refusal>
         ensures { λ r. ⌜ ByOk r (λ _. words (now (now (self .entry) .rest)) ≡ []) (λ e. (words (now (now (self .entry) .rest)) ≡ [] → ⊥) × Refused WrongLength (now (self .entry) .section) (now (self .entry) .taken + 1) e) ⌝ }
     {
         match self.take() {

@@ -123,7 +123,7 @@ fn split_line(line: &str) -> Option<(Sort, &str, &str)> {
 }
 
 // The verdict on a line.
-pub fn judge(heap: Global, line: &str) -> Result<Verdict, AllocError> {
+pub(crate) fn judge(heap: Global, line: &str) -> Result<Verdict, AllocError> {
     let Some((sort, kind, text)) = split_line(line) else {
         return Ok(Verdict::Malformed);
     };

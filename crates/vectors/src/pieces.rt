@@ -18,7 +18,7 @@ fn corner(n: &[i128]) -> Option<Corner> {
 }
 
 // The direction with these three entries.
-pub fn direction(n: &[i128]) -> Option<Direction> {
+pub(crate) fn direction(n: &[i128]) -> Option<Direction> {
     let [x, y, z] = n else {
         return None;
     };
@@ -30,7 +30,7 @@ pub fn direction(n: &[i128]) -> Option<Direction> {
 }
 
 // The hull of one corner or more.
-pub fn hull_of<H: Hull>(corners: &[i128]) -> Option<H> {
+pub(crate) fn hull_of<H: Hull>(corners: &[i128]) -> Option<H> {
     let mut hull: Option<H> = None;
     for n in corners.chunks(3) {
         let p = corner(n)?;
@@ -65,7 +65,7 @@ pub struct Pair<H> {
 }
 
 // The pair with these thirty numbers: two facets and a placement.
-pub fn pair_of<H: Hull>(n: &[i128]) -> Option<Pair<H>> {
+pub(crate) fn pair_of<H: Hull>(n: &[i128]) -> Option<Pair<H>> {
     if n.len() != 30 {
         return None;
     }

@@ -11,7 +11,7 @@ pub struct Tally {
 }
 
 impl Tally {
-    pub fn new() -> Tally
+    pub(crate) fn new() -> Tally
         ensures { λ t. ⌜ (t .reaches ≡ 0) × (t .gaps ≡ 0) × (t .partings ≡ 0) ⌝ }
     {
         Tally {
@@ -22,7 +22,7 @@ impl Tally {
     }
 
     // One more vector of the sort.
-    pub fn add(&mut self, sort: Sort) {
+    pub(crate) fn add(&mut self, sort: Sort) {
         match sort {
             Sort::Reach => self.reaches = self.reaches.saturating_add(1),
             Sort::Gap => self.gaps = self.gaps.saturating_add(1),
