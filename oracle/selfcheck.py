@@ -34,6 +34,8 @@ from geometry import (
     subtract,
     times,
 )
+from histories import history_lines
+from history import RAW_LIMIT
 from hulls import (
     BALL,
     BOX,
@@ -60,6 +62,7 @@ from random_cases import (
     some_shift,
     triple,
 )
+from register import HEIGHT_LIMIT, OBJECT_LIMIT, Register
 
 TURNED = (629146, -838861, 0, 838861, 629146, 0, 0, 0, 1048576)
 FLOOR = [(0, 0, 0), (40, 0, 0), (0, 40, 0)]
@@ -338,6 +341,293 @@ def check_whole_job():
     assert other.endswith("placement 2: 1 pairs, 1 tests\n0 0\n")
 
 
+# The rules of register.md on hand-made histories
+
+HAND_MADE = """
+open 7 5
+close 9 = refused 3
+start = started
+start = refused 1
+facet 9 0 0 0 1 0 0 0 1 0 = refused 3
+facet 7 0 0 0 1 0 0 0 1 0 = entered 0
+facet 7 0 0 0 1 0 0 0 1 32768 = refused 4
+facet 7 -32768 0 0 1 0 0 0 1 0 = refused 4
+facet 7 -32767 0 0 1 0 0 0 1 32767 = entered 1
+tie 9 0 1 = refused 3
+tie 7 0 0 = refused 6
+tie 7 0 2 = refused 6
+tie 7 -1 0 = refused 6
+tie 7 1 0 = entered 2
+tie 7 0 1 = refused 6
+tie 7 0 2 = refused 6
+tie 7 2 1 = refused 6
+drop 9 = refused 3
+close 9 = refused 3
+close 7 = filed 0
+tie 9 0 1 = refused 3
+start = started
+tie 7 0 1 = refused 6
+facet 7 1 1 1 1 1 1 1 1 1 = entered 0
+tie 7 0 1 = refused 6
+facet 7 2 2 2 2 2 2 2 2 2 = entered 1
+facet 7 3 3 3 3 3 3 3 3 3 = refused 5
+facet 7 3 3 3 3 3 3 3 3 99999 = refused 4
+facet 9 3 3 3 3 3 3 3 3 99999 = refused 3
+tie 7 0 1 = refused 5
+tie 7 1 1 = refused 6
+close 7 = refused 8
+drop 9 = refused 3
+start = started
+drop 7 = removed 0
+start = started
+facet 7 4 4 4 4 4 4 4 4 4 = entered 0
+close 7 = filed 1
+start = started
+close 7 = refused 8
+start = started
+facet 7 5 5 5 5 5 5 5 5 5 = entered 0
+close 7 = filed 2
+start = started
+facet 7 6 6 6 6 6 6 6 6 6 = refused 5
+drop 7 = removed 0
+open 0 0
+start = started
+facet 0 0 0 0 0 0 0 0 0 0 = refused 5
+facet 0 0 0 0 0 9223372036854775807 0 0 0 0 = refused 4
+tie 0 0 1 = refused 6
+close 65535 = refused 3
+close 0 = refused 8
+start = started
+start = refused 1
+drop 0 = removed 0
+open 256 9
+start = started
+facet 256 0 0 0 0 0 0 0 0 0 = entered 0
+facet 256 0 0 0 0 0 0 0 0 0 = entered 1
+facet 256 0 0 0 0 0 0 0 0 0 = entered 2
+tie 256 2 0 = entered 3
+tie 256 1 3 = entered 4
+facet 256 0 0 0 0 0 0 0 0 0 = entered 5
+close 0 = refused 3
+drop 256 = removed 6
+start = started
+facet 256 0 0 0 0 0 0 0 0 0 = entered 0
+facet 256 0 0 0 0 0 0 0 0 0 = entered 1
+facet 256 0 0 0 0 0 0 0 0 0 = entered 2
+facet 256 0 0 0 0 0 0 0 0 0 = entered 3
+tie 256 3 1 = entered 4
+tie 256 2 0 = entered 5
+tie 256 4 2 = refused 6
+tie 256 4294967301 4 = refused 6
+tie 256 5 4 = entered 6
+facet 256 0 0 0 0 0 0 0 0 0 = entered 7
+facet 256 0 0 0 0 0 0 0 0 0 = entered 8
+tie 256 7 8 = refused 5
+close 256 = refused 8
+start = started
+facet 256 0 0 0 0 0 0 0 0 0 = entered 0
+close 256 = filed 0
+"""
+
+POINT = (0, 0, 0, 0, 0, 0, 0, 0, 0)
+
+
+def answer_of(register, words):
+    """Make the call of a line on a register."""
+    call, *numbers = words
+    if call == "start":
+        assert not numbers
+        return register.start()
+    mark, *rest = map(int, numbers)
+    if call == "facet":
+        assert len(rest) == 9
+        return register.facet(mark, rest)
+    if call == "tie":
+        return register.tie(mark, *rest)
+    assert not rest
+    return {"close": register.close, "drop": register.drop}[call](mark)
+
+
+def check_answers(lines):
+    """Check the answer of each call of some histories; give the last register."""
+    register = None
+    for line in lines:
+        call, _, answer = line.partition(" = ")
+        words = call.split(" ")
+        if words[0] == "open":
+            assert not answer
+            register = Register(int(words[1]), [None] * int(words[2]), BOX)
+        else:
+            assert " ".join(map(str, answer_of(register, words))) == answer, line
+    return register
+
+
+def check_hand_made():
+    """Check the hand-made histories."""
+    check_answers(HAND_MADE.strip().split("\n"))
+
+
+def check_object_limit():
+    """Check that 64 objects can be closed and no more."""
+    register = Register(3, [None] * 100, BOX)
+    for number in range(64):
+        assert register.start() == ("started",)
+        assert register.start() == ("refused", 1)
+        assert register.facet(3, POINT) == ("entered", 0)
+        assert register.close(3) == ("filed", number)
+    assert register.start() == ("refused", 2)
+    assert register.facet(3, POINT) == ("refused", 3)
+    assert OBJECT_LIMIT == 64
+
+
+def chain_register(places):
+    """Give a register with a chain of height 32, item 64, and one more facet, item 65."""
+    register = Register(3, [None] * places, BOX)
+    assert register.start() == ("started",)
+    assert register.facet(3, POINT) == ("entered", 0)
+    for height in range(1, 33):
+        assert register.facet(3, POINT) == ("entered", 2 * height - 1)
+        assert register.tie(3, 2 * height - 2, 2 * height - 1) == ("entered", 2 * height)
+    assert register.facet(3, POINT) == ("entered", 65)
+    return register
+
+
+def check_height_limit():
+    """Check that a tie of height 33 is refused, after 3 and 6 and before 5."""
+    for places in (66, 70):
+        register = chain_register(places)
+        assert register.tie(3, 64, 65) == ("refused", 7)
+        assert register.tie(3, 65, 64) == ("refused", 7)
+        assert register.tie(4, 64, 65) == ("refused", 3)
+        assert register.tie(3, 64, 64) == ("refused", 6)
+        assert register.tie(3, 64, 62) == ("refused", 6)
+        assert register.facet(3, POINT) == (("refused", 5) if places == 66 else ("entered", 66))
+    assert register.tie(3, 66, 65) == ("entered", 67)
+    assert register.tie(3, 64, 67) == ("refused", 7)
+    assert register.drop(3) == ("removed", 68)
+    assert HEIGHT_LIMIT == 32
+
+
+def check_marks():
+    """Check that the mark alone tells drafts apart, and only while a draft is open."""
+    register = Register(65_535, [None] * 3, BOX)
+    assert register.drop(65_535) == ("refused", 3)
+    register.start()
+    assert register.facet(0, POINT) == ("refused", 3)
+    assert register.facet(65_535, POINT) == ("entered", 0)
+    assert register.close(65_535) == ("filed", 0)
+    assert register.close(65_535) == ("refused", 3)
+
+
+def check_capacity():
+    """Check the greatest capacity, and that opening writes nothing."""
+    assert Register(0, [None] * 65_537, BOX).capacity == 65_536
+    assert Register(0, [None] * 65_535, BOX).capacity == 65_535
+    table = ["old"] * 2
+    Register(0, table, BOX)
+    assert table == ["old"] * 2
+
+
+def check_stored_hulls():
+    """Check the stored hulls of facets and ties, and which places keep what they held."""
+    table = ["old"] * 5
+    register = Register(1, table, BALL)
+    register.start()
+    register.facet(1, (0, 0, 0, 3, 4, 0, 0, 0, 0))
+    register.facet(1, (10, 20, 30, 13, 24, 30, 10, 20, 29))
+    register.tie(1, 1, 0)
+    assert table[0][1] == ((0, 0, 0), 5) and table[1][1] == ((10, 20, 30), 5)
+    assert table[2][1] == ((10, 20, 30), 38)  # the square of 38 is next above 1,400
+    assert table[2][0].parts == (1, 0) and table[2][0].height == 1
+    assert table[3:] == ["old"] * 2
+    held = list(table)
+    register.drop(1)
+    assert table == held
+    register.start()
+    register.facet(1, (7, 7, 7, 7, 7, 7, 7, 7, 7))
+    assert table[0][1] == ((7, 7, 7), 0) and table[1:] == held[1:]
+    assert register.close(1) == ("filed", 0)
+    register.start()
+    register.facet(1, (8, 8, 8, 8, 8, 8, 8, 8, 8))
+    assert table[1][1] == ((8, 8, 8), 0) and table[2:] == held[2:]
+
+
+# The printed histories
+
+
+def split_histories(lines):
+    """Give the lines of each history."""
+    found = []
+    for line in lines:
+        if line.startswith("open "):
+            found.append([])
+        found[-1].append(line)
+    return found
+
+
+def check_tokens(lines):
+    """Check that a history has two marks, raw numbers in range, and own calls with a token only."""
+    own = int(lines[0].split(" ")[1])
+    foreign, has_token = set(), False
+    for line in lines[1:]:
+        call, answer = line.split(" = ")
+        word, *numbers = call.split(" ")
+        assert all(abs(int(number)) <= RAW_LIMIT for number in numbers)
+        if answer == "started":
+            has_token = True
+        elif word != "start" and int(numbers[0]) != own:
+            foreign.add(numbers[0])
+            assert answer == "refused 3"
+        elif word != "start":
+            assert has_token and answer != "refused 3"
+            has_token = word in ("facet", "tie")
+    assert len(foreign) <= 1
+
+
+def items_under(items, number):
+    """Give the numbers of the items that lie under an item, itself among them."""
+    found = [number]
+    for part in items[number].parts:
+        found += items_under(items, part)
+    return found
+
+
+def check_object(items):
+    """Check what holds for every closed object."""
+    assert sorted(items_under(items, len(items) - 1)) == list(range(len(items)))
+    for item in items:
+        parts = [items[part] for part in item.parts]
+        assert item.height == (1 + max(part.height for part in parts) if parts else 0)
+        assert item.height <= 32
+        if parts:
+            assert item.corners == parts[0].corners + parts[1].corners
+        else:
+            assert len(item.corners) == 3
+
+
+def check_table(register):
+    """Check that objects and then the draft fill the lowest places in order."""
+    items = [item for items in register.objects for item in items] + (register.draft or [])
+    for item, place in zip(items, register.table):
+        assert place[0] is item and place[1] == grow(BOX, item.corners)
+
+
+def check_histories():
+    """Check the printed histories; give their number."""
+    lines = history_lines()
+    assert sum(len(line) + 1 for line in lines) <= 400_000
+    for number in range(1, 9):
+        assert sum(line.endswith(f"= refused {number}") for line in lines) >= 36
+    found = split_histories(lines)
+    for history in found:
+        check_tokens(history)
+        register = check_answers(history)
+        check_table(register)
+        for items in register.objects:
+            check_object(items)
+    return len(found)
+
+
 # Random checks of one hull
 
 
@@ -552,12 +842,20 @@ def main():
     check_second_gaps()
     check_bound_example()
     check_whole_job()
+    check_hand_made()
+    check_object_limit()
+    check_height_limit()
+    check_marks()
+    check_capacity()
+    check_stored_hulls()
+    count = check_histories()
     rng = random.Random(26)
     check_random_hulls(rng, 4_000)
     apart, near = check_random_pairs(rng, 600)[::-1]
     shared = check_sharing_pairs(rng, 300)
     assert CORNER_LIMIT == 32_767
-    print(f"all well: {apart} parted and {near} other pairs, {shared} pairs that share a point")
+    pairs = f"{apart} parted and {near} other pairs, {shared} pairs that share a point"
+    print(f"all well: {pairs}, {count} histories")
 
 
 if __name__ == "__main__":

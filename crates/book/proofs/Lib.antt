@@ -1,0 +1,10 @@
+pub mod Corners
+pub mod Slices
+pub mod Forest
+pub mod Flags
+pub mod Wholes
+pub mod Pending
+pub mod Answering
+pub mod LedgerLaws
+pub mod Growth
+pub mod Joining

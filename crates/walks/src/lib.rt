@@ -1,0 +1,1 @@
+// Theory of walks.
