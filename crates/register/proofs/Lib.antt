@@ -4,3 +4,4 @@ pub mod Turns
 pub mod Flagging
 pub mod Entering
 pub mod Clearing
+pub mod Runs

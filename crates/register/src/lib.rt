@@ -3,6 +3,7 @@ mod calls;
 mod draft;
 mod example;
 mod facets;
+mod history;
 mod place;
 mod register;
 mod stack;
@@ -10,5 +11,7 @@ mod ties;
 
 pub use draft::Draft;
 pub use draft::Unclosed;
+pub use history::replay;
 pub use place::Place;
+pub use place::PlaceClone;
 pub use register::Register;
