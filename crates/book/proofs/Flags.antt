@@ -90,7 +90,7 @@ untied-le p = omega (arith, countBy-le-length not (flags p), length-flags p)
 
 -- a facet is written
 module _ (p : List Item) (f : Facet) (good : sane p ≡ true) where
-  flags-facet : flags (p ++ item.Facet f ∷ []) ≡ flags p ++ false ∷ []
+  pub flags-facet : flags (p ++ item.Facet f ∷ []) ≡ flags p ++ false ∷ []
   flags-facet = same-lists _ _
       (omega (arith, length-flags (p ++ item.Facet f ∷ []), length-push p (item.Facet f), length-push (flags p) false, length-flags p))
       (λ k d h.
@@ -158,7 +158,7 @@ module _ (p : List Item) (x y : ℕ) (good : sane p ≡ true) (ok : allowed p (i
   abbrev both : Joins p x y
   both = tie-allowed p x y ok .0
 
-  flags-tie : flags (p ++ item.Tie x y ∷ []) ≡ bound p x y both ++ false ∷ []
+  pub flags-tie : flags (p ++ item.Tie x y ∷ []) ≡ bound p x y both ++ false ∷ []
   flags-tie =
       let w = both in
       let a = length-flags (p ++ item.Tie x y ∷ []) in

@@ -6,3 +6,6 @@ pub mod Functional
 pub mod Waiting
 pub mod Objects
 pub mod Soundness
+pub mod Deciding
+pub mod Walking
+pub mod Sizes
