@@ -33,8 +33,7 @@ class History:
         return answer
 
     def mark_of(self, foreign):
-        """Give the mark to hand in; the own one needs a draft token."""
-        assert foreign or self.has_token
+        """Give the mark to hand in."""
         return self.other if foreign else self.own
 
     def start(self):
@@ -103,3 +102,11 @@ class History:
         self.tie(0, 1, foreign=True)
         self.close(foreign=True)
         self.drop(foreign=True)
+
+    def spent_calls(self):
+        """Make each call that takes a draft with the own mark while no draft is open."""
+        assert not self.has_token
+        self.facet()
+        self.tie(0, 1)
+        self.close()
+        self.drop()

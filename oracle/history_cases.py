@@ -184,6 +184,25 @@ def foreign_too_high():
         yield h
 
 
+def spent_drafts():
+    """Meet 3 with the own mark: before the first start, and after close, refusal 8 and drop."""
+    h = opened(0, 4)
+    h.spent_calls()
+    h.object()
+    h.spent_calls()
+    h.start()
+    h.facets(2)
+    h.close()
+    h.spent_calls()
+    h.start()
+    h.facet()
+    h.drop()
+    h.spent_calls()
+    h.object(2)
+    h.spent_calls()
+    yield h
+
+
 # 4: the range of corners
 
 
@@ -608,6 +627,7 @@ HAND_MADE = (
     foreign_before_all,
     foreign_close,
     foreign_too_high,
+    spent_drafts,
     ends_of_range,
     wild_numbers,
     range_before_room,

@@ -566,7 +566,7 @@ def split_histories(lines):
 
 
 def check_tokens(lines):
-    """Check that a history has two marks, raw numbers in range, and own calls with a token only."""
+    """Check that a history has two marks, raw numbers in range, and 3 just for calls without a draft."""
     own = int(lines[0].split(" ")[1])
     foreign, has_token = set(), False
     for line in lines[1:]:
@@ -579,8 +579,8 @@ def check_tokens(lines):
             foreign.add(numbers[0])
             assert answer == "refused 3"
         elif word != "start":
-            assert has_token and answer != "refused 3"
-            has_token = word in ("facet", "tie")
+            assert has_token == (answer != "refused 3")
+            has_token = has_token and word in ("facet", "tie")
     assert len(foreign) <= 1
 
 
