@@ -1,4 +1,6 @@
 // The axes of a placement, made ready for tests.
+#![tactic(auto)]
+
 mod axis_list;
 mod directions;
 mod table;

@@ -3,6 +3,8 @@
 // The file has a job's words, but none of a job's limits: there may be 65,536 items and 20,000,000 pairs. Where the second object has
 // neither facets nor ties, the first is compared with itself. With the word `time` after the file's name, each comparison is repeated
 // and its time printed.
+#![tactic(auto)]
+
 mod entry;
 mod job;
 mod query;

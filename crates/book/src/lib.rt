@@ -1,4 +1,6 @@
 // What a register is held to: items, calls, answers and the book that they are told of.
+#![tactic(auto)]
+
 mod call;
 mod item;
 mod ledger;

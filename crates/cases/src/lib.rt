@@ -1,4 +1,6 @@
 // The worked cases of the rules, proved of their definitions and run.
+#![tactic(auto)]
+
 ghost use Rattle.std.specs.Prelude.{◌≡◌, true, pos, Some};
 ghost use Rattle.cases.specs.Worked.{Worked};
 

@@ -1,4 +1,6 @@
 // Holds the register to histories of calls with the answers and lists that are due.
+#![tactic(auto)]
+
 mod history;
 mod line;
 mod reply;

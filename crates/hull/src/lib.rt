@@ -1,4 +1,6 @@
 // Corners, directions, and what a kind of hull is.
+#![tactic(auto)]
+
 mod corner;
 mod decompose;
 mod direction;

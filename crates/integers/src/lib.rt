@@ -1,4 +1,6 @@
 // Whole numbers for the crates above: arithmetic that cannot overflow, and the laws that their proofs import from proofs/.
+#![tactic(auto)]
+
 ghost use Rattle.std.specs.Prelude.{◌≡◌, ◌*◌, ◌^◌, ◌≤◌, ◌+ℤ◌, ◌*ℤ◌, unsigned_abs};
 ghost use Rattle.integers.specs.Roots.{root_up};
 

@@ -1,4 +1,6 @@
 // The report on a job, from its bytes.
+#![tactic(auto)]
+
 mod reporting;
 mod run;
 

@@ -1,4 +1,6 @@
 // Holds the reports of jobs to those that are due.
+#![tactic(auto)]
+
 mod case;
 
 use case::{Case, Cases};

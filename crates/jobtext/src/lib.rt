@@ -1,4 +1,6 @@
 // What the text of a job is held to: its sections, the places in it and its faults.
+#![tactic(auto)]
+
 mod fault;
 mod kind;
 mod section;

@@ -1,4 +1,6 @@
 // The replay of a history at each kind of hull.
+#![tactic(auto)]
+
 ghost use Rattle.std.specs.Prelude.{pos, length};
 ghost use Rattle.faced.specs.Hulls.{box_begun, box_grown, box_reach, box_unrounded, many_begun, many_grown, many_reach, many_unrounded};
 ghost use Rattle.ball.specs.Balls.{ball_begun, ball_grown, ball_reach_lem};

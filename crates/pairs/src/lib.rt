@@ -1,4 +1,6 @@
 // One pair of hulls along the axes of a placement: the records of an axis, and in proofs/ what follows from a kind's laws.
+#![tactic(auto)]
+
 mod axis;
 
 pub use axis::{Axis, FixedAxis, SeparatingAxis};

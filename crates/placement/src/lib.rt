@@ -1,4 +1,6 @@
 // A placement of the moved piece: a matrix and a shift.
+#![tactic(auto)]
+
 mod parts;
 mod twelve;
 

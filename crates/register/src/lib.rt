@@ -1,4 +1,6 @@
 // A register of scans over a lent table, and the drafts that fill it.
+#![tactic(auto)]
+
 mod calls;
 mod compare;
 mod draft;

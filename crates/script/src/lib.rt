@@ -1,4 +1,6 @@
 // Reads the text of a job into the requests that it makes.
+#![tactic(auto)]
+
 mod entries;
 mod number;
 mod rows;

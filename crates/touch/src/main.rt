@@ -1,4 +1,6 @@
 // Reads a job and prints its report: the facet pairs that may touch.
+#![tactic(auto)]
+
 use anyhow::anyhow;
 use job::report;
 use script::MOST_BYTES;

@@ -1,4 +1,6 @@
 // Holds the proved crates to test vectors.
+#![tactic(auto)]
+
 mod line;
 mod pieces;
 mod tally;

@@ -1,1 +1,2 @@
 // Theory of walks.
+#![tactic(auto)]

@@ -15,7 +15,7 @@ pub returns-then-f-n : goal.returns-then-f-n
 returns-then-f-n c =
     let f = c.isqrt-f.result in
     let n = c.args.n in
-    record { value = root_is n (f + 1) (le_of_lt c.isqrt-f.ensures.next-square-gt) (next f n c.if-f-n.true); bound = omega arith }
+    record { value = root_is n (f + 1) (le_of_lt c.isqrt-f.ensures.next_square_gt) (next f n c.if-f-n.true); bound = omega arith }
 
 pub returns-else-f-n : goal.returns-else-f-n
 returns-else-f-n c =

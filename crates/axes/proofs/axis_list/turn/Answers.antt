@@ -15,15 +15,15 @@ module _ (r : Row) (a : FixedAxis) (z : ℤ) (e : z ≡ turned_entry r a) where
   bound : nat_abs (word w16 z) ≤ axis_limit
   bound = subst (λ (k : ℤ). nat_abs k ≤ axis_limit) (sym value) (turned_small r a)
 
-pub invariant-of-result : goal.invariant-of-result
-invariant-of-result c =
+pub invariant_of-result : goal.invariant_of-result
+invariant_of-result c =
     let p = c.args.p.now in
     let a = c.args.a.now in
-    (bound p.x a c.turn-entry.result c.turn-entry.ensures, (bound p.y a c.turn-entry-2.result c.turn-entry-2.ensures, (bound p.z a c.turn-entry-3.result c.turn-entry-3.ensures, tt)))
+    (bound p.x a c.turn_entry.result c.turn_entry.ensures, (bound p.y a c.turn_entry-2.result c.turn_entry-2.ensures, (bound p.z a c.turn_entry-3.result c.turn_entry-3.ensures, tt)))
 
 pub returns : goal.returns
 unfolding turned
 returns c =
     let p = c.args.p.now in
     let a = c.args.a.now in
-    same_axis _ (turned p a) (value p.x a c.turn-entry.result c.turn-entry.ensures) (value p.y a c.turn-entry-2.result c.turn-entry-2.ensures) (value p.z a c.turn-entry-3.result c.turn-entry-3.ensures)
+    same_axis _ (turned p a) (value p.x a c.turn_entry.result c.turn_entry.ensures) (value p.y a c.turn_entry-2.result c.turn_entry-2.ensures) (value p.z a c.turn_entry-3.result c.turn_entry-3.ensures)

@@ -21,8 +21,8 @@ value c =
     ∙ product_read matrix_limit (lit< tt) (as_axis a) r.x r.y r.z r.x_in r.y_in r.z_in in
     ap (word w64) (c.floor.ensures ∙ ap (λ (z : ℤ). div_down z axis_unit) e) ∙ read w64 (turned_entry r a) axis_limit (turned_small r a) (lit< tt)
 
-pub overflow-cast-result : goal.overflow-cast-result
-overflow-cast-result c =
+pub overflow_cast-result : goal.overflow_cast-result
+overflow_cast-result c =
     let r = c.args.r.now in
     let a = c.args.a.now in
     subst (SFits w16) (sym (value c)) (fits w16 (turned_entry r a) axis_limit (turned_small r a) (lit< tt))

@@ -28,8 +28,8 @@ small c =
     subst (λ (z : ℤ). nat_abs z ≤ 3 * (axis_limit * 2 ^ 31)) (sym (value c))
     (dot_small axis_limit (2 ^ 31) l.x l.y l.z c.args.x c.args.y c.args.z l.x_in l.y_in l.z_in (narrow c.args.x c.ranges.x) (narrow c.args.y c.ranges.y) (narrow c.args.z c.ranges.z))
 
-pub overflow-cast-result : goal.overflow-cast-result
-overflow-cast-result c =
+pub overflow_cast-result : goal.overflow_cast-result
+overflow_cast-result c =
     let f = fits w128 c.dot.result (3 * (axis_limit * 2 ^ 31)) (small c) (lit< tt) in
     simp to_z-of_z (fits w64 c.dot.result (3 * (axis_limit * 2 ^ 31)) (small c) (lit< tt))
 

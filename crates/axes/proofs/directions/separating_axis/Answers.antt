@@ -27,13 +27,13 @@ small c =
     let t = c.args.p.now.shift in
     subst (λ (z : ℤ). nat_abs z ≤ limit) (sym (value c)) (dot_small axis_limit shift_limit l.x l.y l.z t.x t.y t.z l.x_in l.y_in l.z_in t.x_in t.y_in t.z_in)
 
-pub overflow-mul-result : goal.overflow-mul-result
-overflow-mul-result c = scaled_fits c.product.result (small c)
+pub overflow_mul-result : goal.overflow_mul-result
+overflow_mul-result c = scaled_fits c.product.result (small c)
 
 pub returns : goal.returns
 unfolding separating
 returns c =
     let e = scaled_read c.product.result (small c) ∙ ap (λ (z : ℤ). pos shift_ratio *ℤ z) (value c) in
-    let a = c.reverse.ensures ∙ ap opposite c.moved-moved-up.ensures in
-    let b = c.reverse-2.ensures ∙ ap opposite c.standing-standing-up.ensures in
+    let a = c.reverse.ensures ∙ ap opposite c.moved-moved_up.ensures in
+    let b = c.reverse-2.ensures ∙ ap opposite c.standing-standing_up.ensures in
     cc

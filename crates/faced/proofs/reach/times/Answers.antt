@@ -14,8 +14,8 @@ bound c = small_mul (pos c.args.n) c.args.g (2 ^ 32) (2 ^ 15) (omega arith) (sma
 product : (c : goal.Start) → SFits w64 (pos c.args.n *ℤ c.args.g)
 product c = fits w64 (pos c.args.n *ℤ c.args.g) (2 ^ 47) (bound c) (lit< tt)
 
-pub overflow-mul-result : goal.overflow-mul-result
-overflow-mul-result c =
+pub overflow_mul-result : goal.overflow_mul-result
+overflow_mul-result c =
     let g = c.ranges.g in
     let h = fits w64 c.args.g (2 ^ 15) (small c.args.g c.ranges.g) (lit< tt) in
     let n : c.args.n < 2 ^ 63 = omega arith in

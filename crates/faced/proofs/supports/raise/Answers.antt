@@ -13,11 +13,11 @@ loop-i-preserved c =
     let h : c.loop-i.i < length c.args.values.now = c.loop-i-test.true in
     let l : length c.args.values.now ≤ length (supports c.args.p.now) = subst (λ n. length c.args.values.now ≤ n) (sym (supports_length c.args.p.now)) c.requires in
     let fv : SFits w16 (get_or c.loop-i.values c.loop-i.i (pos 0)) = search rules in
-    let fs : SFits w16 c.support-of.result = record { sfits = c.support-of.type-inv } in
-    let fm : SFits w16 c.max.result = record { sfits = c.max.type-inv } in
-    let m : c.max.result ≡ int_max (get_or c.loop-i.values c.loop-i.i (pos 0)) c.support-of.result = simp to_z-of_z at c.max.ensures.value in
+    let fs : SFits w16 c.support_of.result = record { sfits = c.support_of.type_inv } in
+    let fm : SFits w16 c.max.result = record { sfits = c.max.type_inv } in
+    let m : c.max.result ≡ int_max (get_or c.loop-i.values c.loop-i.i (pos 0)) c.support_of.result = simp to_z-of_z at c.max.ensures.value in
     let old : get_or c.loop-i.values c.loop-i.i (pos 0) ≡ get_or g i (pos 0) = ap (λ (k : List ℤ). get_or k i (pos 0)) c.loop-i.invariant ∙ raised_read i g s h l in
-    ap₂ (λ (k : List ℤ) (z : ℤ). set k i z) c.loop-i.invariant (to_z-of_z w16 c.max.result fm ∙ m ∙ ap₂ int_max old c.support-of.ensures)
+    ap₂ (λ (k : List ℤ) (z : ℤ). set k i z) c.loop-i.invariant (to_z-of_z w16 c.max.result fm ∙ m ∙ ap₂ int_max old c.support_of.ensures)
     ∙ raised_more i g s h l
 
 pub returns : goal.returns

@@ -12,4 +12,4 @@ same p q differ false false first second is left = absurd (false≢true (sym lef
 pub loop-i-preserved : goal.loop-i-preserved
 loop-i-preserved c =
     let told = c.ne.ensures in
-    below_more _ _ c.loop-i.invariant (same _ _ _ told.0 told.1.0 told.1.1 told.1.2 told.2 c.if-ne.false ∙ c.due-at.ensures)
+    below_more _ _ c.loop-i.invariant (same _ _ _ told.0 told.1.0 told.1.1 told.1.2 told.2 c.if-ne.false ∙ c.due_at.ensures)

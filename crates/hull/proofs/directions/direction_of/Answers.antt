@@ -5,13 +5,13 @@ use Rattle.hull.specs.Weights.{box_weights, sorted, Ranked}
 use Rattle.hull.proofs.WeightLaws.{ranked}
 use Rattle.hull.proofs.directions.direction_of.Goals as goal
 
-pub on-many-requires : goal.on-many-requires
-on-many-requires c =
+pub on_many-requires : goal.on_many-requires
+on_many-requires c =
     let x : SFits w64 c.args.x = c.ranges.x in
     let y : SFits w64 c.args.y = c.ranges.y in
     let z : SFits w64 c.args.z = c.ranges.z in
-    let a = simp to_z-of_z at c.entry-on-a.ensures.value in
-    let b = simp to_z-of_z at c.entry-on-b.ensures.value in
-    let d = simp to_z-of_z at c.entry-on-c.ensures.value in
-    let e : box_weights c.args.x c.args.y c.args.z ≡ c.entry-on-a.result ∷ c.entry-on-b.result ∷ c.entry-on-c.result ∷ [] = cc in
+    let a = simp to_z-of_z at c.entry_on-a.ensures.value in
+    let b = simp to_z-of_z at c.entry_on-b.ensures.value in
+    let d = simp to_z-of_z at c.entry_on-c.ensures.value in
+    let e : box_weights c.args.x c.args.y c.args.z ≡ c.entry_on-a.result ∷ c.entry_on-b.result ∷ c.entry_on-c.result ∷ [] = cc in
     subst (λ (ws : List Weight). Ranked (sorted ws)) e (ranked c.args.x c.args.y c.args.z c.requires.in_x c.requires.in_y c.requires.in_z)

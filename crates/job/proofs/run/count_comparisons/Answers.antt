@@ -15,8 +15,8 @@ other (Compare c) rs n = absurd (n c refl)
 pub loop-request-init : goal.loop-request-init
 loop-request-init c = record { counted = omega arith; few = omega arith }
 
-pub overflow-add-count : goal.overflow-add-count
-overflow-add-count c = let l : c.loop-request.count < length c.args.requests.now = omega arith in search rules
+pub overflow_add-count : goal.overflow_add-count
+overflow_add-count c = let l : c.loop-request.count < length c.args.requests.now = omega arith in search rules
 
 pub loop-request-preserved : goal.loop-request-preserved
 loop-request-preserved c =

@@ -2,8 +2,8 @@ use Rattle.std.proofs.Common.{arith, w64, SFits, rules}
 use borrow.Author.Differences.{ints}
 use Rattle.overlap.proofs.separation.first_gap.Goals as goal
 
-pub overflow-add-result : goal.overflow-add-result
-overflow-add-result g c =
+pub overflow_add-result : goal.overflow_add-result
+overflow_add-result g c =
     let h = c.room.ensures.bound in
     let f : SFits w64 c.args.axis.now.shift = search rules in
     omega (arith, ints)

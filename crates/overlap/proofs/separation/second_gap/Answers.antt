@@ -2,8 +2,8 @@ use Rattle.std.proofs.Common.{arith, w64, SFits, rules}
 use borrow.Author.Differences.{ints}
 use Rattle.overlap.proofs.separation.second_gap.Goals as goal
 
-pub overflow-sub-result : goal.overflow-sub-result
-overflow-sub-result g c =
+pub overflow_sub-result : goal.overflow_sub-result
+overflow_sub-result g c =
     let h = c.room.ensures.bound in
     let f : SFits w64 c.args.axis.now.shift = search rules in
     omega (arith, ints)

@@ -5,15 +5,15 @@ use Rattle.register.specs.Registers.{book_of}
 use Rattle.register.proofs.Alone.{not_started, dropped, not_dropped, closed, not_closed, table_kept, table_stands}
 use Rattle.register.proofs.example.enter_one.Goals as goal
 
-pub returns-in-err-draft : goal.returns-in-err-draft
-returns-in-err-draft g c =
-    let s = c.in-err-draft.ensures in
-    let p = err_from_is_err_and c.from-residual.result c.from-residual.ensures.1 in
+pub returns-in_err-draft : goal.returns-in_err-draft
+returns-in_err-draft g c =
+    let s = c.in_err-draft.ensures in
+    let p = err_from_is_err_and c.from_residual.result c.from_residual.ensures.1 in
     record { book = rw (p.1, p.2) (not_started _ _ _ _ s.said); table = rw p.1 s.table; grown = s.grown }
 
 pub returns-in-Ok-close : goal.returns-in-Ok-close
 returns-in-Ok-close g c =
-    let s = c.in-ok-draft.ensures in
+    let s = c.in_ok-draft.ensures in
     let f = c.facet-answer.ensures in
     let d = c.in-Ok-close.ensures in
     record {
@@ -24,19 +24,19 @@ returns-in-Ok-close g c =
 
 pub returns-in-Err-NotThisDraft : goal.returns-in-Err-NotThisDraft
 returns-in-Err-NotThisDraft g c =
-    let s = c.in-ok-draft.ensures in
+    let s = c.in_ok-draft.ensures in
     let f = c.facet-answer.ensures in
     not_closed _ _ _ s.said _ _ s.marked f.back _ _ f.said _ c.in-Ok.is NotThisDraft (book_of c.close.new.register) (search rules)
 
 pub returns-in-Err-PartsLeftOver : goal.returns-in-Err-PartsLeftOver
 returns-in-Err-PartsLeftOver g c =
-    let s = c.in-ok-draft.ensures in
+    let s = c.in_ok-draft.ensures in
     let f = c.facet-answer.ensures in
     not_closed _ _ _ s.said _ _ s.marked f.back _ _ f.said _ c.in-Ok.is PartsLeftOver (book_of c.close.new.register) (search rules)
 
 pub returns-in-Ok-drop : goal.returns-in-Ok-drop
 returns-in-Ok-drop g c =
-    let s = c.in-ok-draft.ensures in
+    let s = c.in_ok-draft.ensures in
     let f = c.facet-answer.ensures in
     let d = c.drop.ensures in
     record {
@@ -47,6 +47,6 @@ returns-in-Ok-drop g c =
 
 pub returns-in-Err-drop : goal.returns-in-Err-drop
 returns-in-Err-drop g c =
-    let s = c.in-ok-draft.ensures in
+    let s = c.in_ok-draft.ensures in
     let f = c.facet-answer.ensures in
     not_dropped _ _ _ s.said _ _ s.marked f.back _ _ f.said _ c.in-Err.is _ _ c.in-Err-drop.ensures.said

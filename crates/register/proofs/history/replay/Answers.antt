@@ -11,8 +11,8 @@ use Rattle.register.proofs.history.replay.Goals.{in-Write, in-Compare}
 pub loop-i-init : goal.loop-i-init
 loop-i-init g c = record { running = running_none _ _ _ _ _ _ _ _; grown = c.open-register.ensures.grown; kept = refl }
 
-pub compare-at-answer-requires : goal.compare-at-answer-requires
-compare-at-answer-requires g c = omega (arith, c.loop-i.invariant.running.from_is)
+pub compare_at-answer-requires : goal.compare_at-answer-requires
+compare_at-answer-requires g c = omega (arith, c.loop-i.invariant.running.from_is)
 
 -- the other answers stay
 kept_set : (before answers : List Answer) (i : ℕ) (a : Answer) → drop i answers ≡ drop i before → drop (i + 1) (set answers i a) ≡ drop (i + 1) before
@@ -30,8 +30,8 @@ loop-i-preserved g c =
         kept = kept_set c.args.answers.now c.loop-i.answers i w.make.result c.loop-i.invariant.kept;
       })
       | in-Compare w ↦ rw (w.answers-is, w.lists-is, w.register-is, w.from-is) (record {
-        running = next_compare _ _ _ _ _ _ _ _ c.args.requests.now c.loop-i.answers i hr ha c.loop-i.from c.loop-i.lists _ w.in-Compare.comparison w.compare-at-answer.result.0 w.in-Compare.is c.loop-i.invariant.running
-            (record { long = w.compare-at-answer.auto.lists; front = w.compare-at-answer.ensures.front; back = w.compare-at-answer.ensures.back; to_is = w.compare-at-answer.ensures.next }) (w.compare-at-answer.ensures.answer c.loop-i.invariant.grown);
+        running = next_compare _ _ _ _ _ _ _ _ c.args.requests.now c.loop-i.answers i hr ha c.loop-i.from c.loop-i.lists _ w.in-Compare.comparison w.compare_at-answer.result.0 w.in-Compare.is c.loop-i.invariant.running
+            (record { long = w.compare_at-answer.auto.lists; front = w.compare_at-answer.ensures.front; back = w.compare_at-answer.ensures.back; to_is = w.compare_at-answer.ensures.next }) (w.compare_at-answer.ensures.answer c.loop-i.invariant.grown);
         grown = c.loop-i.invariant.grown;
         kept = kept_set c.args.answers.now c.loop-i.answers i _ c.loop-i.invariant.kept;
       })

@@ -16,11 +16,11 @@ returns-in-default g c =
     let past : (k : ℕ) → c.args.x ≡ pos k → length t ≤ k = simp to_z-of_z at c.in-default.ensures in
     joins_past_left (items_of t) c.args.x c.args.y (λ k e. omega (arith, length_items t, past k e))
 
-pub returns-in-default-number-below : goal.returns-in-default-number-below
-returns-in-default-number-below g c =
+pub returns-in-default-number_below : goal.returns-in-default-number_below
+returns-in-default-number_below g c =
     let t = c.args.page.now in
     let f : SFits w64 c.args.y = search rules in
-    let past : (k : ℕ) → c.args.y ≡ pos k → length t ≤ k = simp to_z-of_z at c.in-default-number-below.ensures in
+    let past : (k : ℕ) → c.args.y ≡ pos k → length t ≤ k = simp to_z-of_z at c.in-default-number_below.ensures in
     joins_past_right (items_of t) c.args.x c.args.y (λ k e. omega (arith, length_items t, past k e))
 
 pub returns-then-i-j : goal.returns-then-i-j
@@ -28,15 +28,15 @@ returns-then-i-j g c =
     let t = c.args.page.now in
     let p = items_of t in
     let i = c.in-Some.i in
-    let j = c.in-Some-number-below.j in
+    let j = c.in-Some-number_below.j in
     let fx : SFits w64 c.args.x = search rules in
     let fy : SFits w64 c.args.y = search rules in
     let ex : c.args.x ≡ pos i = simp to_z-of_z at c.in-Some.ensures.0 in
-    let ey : c.args.y ≡ pos j = simp to_z-of_z at c.in-Some-number-below.ensures.0 in
+    let ey : c.args.y ≡ pos j = simp to_z-of_z at c.in-Some-number_below.ensures.0 in
     let no : joinable p i j ≡ false = elim c.then-i-j.branch [
       | then-i-j-via-then-i-j w ↦ joinable_same p i j w.if-i-j.true
       | then-i-j-via-else-i-j+then-left w ↦ joinable_left p i j (inr (tied_read t i c.index-page-i.result c.in-Some.ensures.1 c.index-page-i.is c.requires ∙ w.if-left.true))
-      | then-i-j-via-else-i-j+else-left+then-right w ↦ joinable_right p i j (inr (tied_read t j c.index-page-j.result c.in-Some-number-below.ensures.1 c.index-page-j.is c.requires ∙ w.if-right.true))
+      | then-i-j-via-else-i-j+else-left+then-right w ↦ joinable_right p i j (inr (tied_read t j c.index-page-j.result c.in-Some-number_below.ensures.1 c.index-page-j.is c.requires ∙ w.if-right.true))
     ] in
     joins_pos p i j _ _ ex ey ∙ no
 
@@ -44,14 +44,14 @@ pub returns : goal.returns
 returns g c =
     let t = c.args.page.now in
     let i = c.in-Some.i in
-    let j = c.in-Some-number-below.j in
+    let j = c.in-Some-number_below.j in
     let fx : SFits w64 c.args.x = search rules in
     let fy : SFits w64 c.args.y = search rules in
     let hi = c.in-Some.ensures.1 in
-    let hj = c.in-Some-number-below.ensures.1 in
+    let hj = c.in-Some-number_below.ensures.1 in
     record {
       x_is = simp to_z-of_z at c.in-Some.ensures.0;
-      y_is = simp to_z-of_z at c.in-Some-number-below.ensures.0;
+      y_is = simp to_z-of_z at c.in-Some-number_below.ensures.0;
       free = joins_yes (items_of t) i j (record {
         differ = c.if-i-j.false;
         x_in = omega (arith, length_items t, hi);

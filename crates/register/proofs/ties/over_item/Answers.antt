@@ -22,8 +22,8 @@ loop-i-init g c =
       growing = rw one (growing_one g.H.Hull.grown (items_of t) c.args.hull y lt (low_at (items_of t) y lt c.requires.0));
     }
 
-pub offset-bounds-page-i : goal.offset-bounds-page-i
-offset-bounds-page-i g c =
+pub offset_bounds-page-i : goal.offset_bounds-page-i
+offset_bounds-page-i g c =
     let lt : c.in-Some.i < length c.args.page.now = inside _ _ _ _ _ _ _ c.in-Some.ensures.held c.loop-i.invariant.growing in
     search rules
 
@@ -36,7 +36,7 @@ loop-i-smaller-in-Facet g c = facet_less _ _ _ _ _ _ _ c.in-Some.ensures.held c.
 pub loop-i-preserved-in-Facet : goal.loop-i-preserved-in-Facet
 loop-i-preserved-in-Facet g c = record {
   room = omega (arith, c.in-Some.ensures.room, c.loop-i.invariant.room);
-  growing = rw c.over-facet-grown.ensures (facet_turn _ _ _ _ _ _ _ c.in-Some.ensures.held c.loop-i.invariant.growing c.index-page-i.result c.index-page-i.is c.in-Facet.facet c.in-Facet.is);
+  growing = rw c.over_facet-grown.ensures (facet_turn _ _ _ _ _ _ _ c.in-Some.ensures.held c.loop-i.invariant.growing c.index-page-i.result c.index-page-i.is c.in-Facet.facet c.in-Facet.is);
 }
 
 pub push-requires-in-Tie : goal.push-requires-in-Tie

@@ -3,15 +3,15 @@ use Rattle.register.proofs.Reading.{height_read, low_read}
 use Rattle.book.specs.Books.{tie_height_lem}
 use Rattle.register.proofs.ties.tie_height.Goals as goal
 
-pub overflow-add-result : goal.overflow-add-result
-overflow-add-result g c =
+pub overflow_add-result : goal.overflow_add-result
+overflow_add-result g c =
     let t = c.args.page.now in
     let e = height_read t c.args.y c.index-page-y.result c.requires.within.1 c.index-page-y.is c.requires.known.0 in
     let l = low_read t c.args.y c.index-page-y.result c.requires.within.1 c.index-page-y.is c.requires.known.1 in
     search rules
 
-pub overflow-add-result-else-left-right : goal.overflow-add-result-else-left-right
-overflow-add-result-else-left-right g c =
+pub overflow_add-result-else-left-right : goal.overflow_add-result-else-left-right
+overflow_add-result-else-left-right g c =
     let t = c.args.page.now in
     let e = height_read t c.args.x c.index-page-x.result c.requires.within.0 c.index-page-x.is c.requires.known.0 in
     let l = low_read t c.args.x c.index-page-x.result c.requires.within.0 c.index-page-x.is c.requires.known.1 in

@@ -24,11 +24,11 @@ not_false : (b : Bool) → false ≡ not b → b ≡ true
 not_false true e = refl
 not_false false e = absurd (false≢true e)
 
-pub overflow-sub-moved : goal.overflow-sub-moved
-overflow-sub-moved g c = some_place_lem c.args.moved.now c.requires.moved.0
+pub overflow_sub-moved : goal.overflow_sub-moved
+overflow_sub-moved g c = some_place_lem c.args.moved.now c.requires.moved.0
 
-pub overflow-sub-standing : goal.overflow-sub-standing
-overflow-sub-standing g c = some_place_lem c.args.standing.now c.requires.standing.0
+pub overflow_sub-standing : goal.overflow_sub-standing
+overflow_sub-standing g c = some_place_lem c.args.standing.now c.requires.standing.0
 
 pub loop-i-init : goal.loop-i-init
 loop-i-init g c =
@@ -39,19 +39,19 @@ loop-i-init g c =
       state = begin (walked_of g.H.Hull.reaches c.args.moved.now c.args.standing.now c.args.axes.now.placement) (stands _ _ _ _ c.requires.moved.0 c.requires.standing.0) c.args.pairs.now _ (c.push.ensures.held ∙ (ap (λ (l : List (ℕ × ℕ)). l ++ (length c.args.moved.now - 1, length c.args.standing.now - 1) ∷ []) (nil_from_length _ z) ∙ ap₂ (λ (m n : ℕ). (m - 1, n - 1) ∷ []) (sym (length_items c.args.moved.now)) (sym (length_items c.args.standing.now))));
     }
 
-pub overflow-add-tests : goal.overflow-add-tests
-overflow-add-tests g c =
+pub overflow_add-tests : goal.overflow_add-tests
+overflow_add-tests g c =
     let k : c.loop-i.tests + 1 ≤ 4294967296 = counted _ _ _ _ (popped _ _ _ _ c.requires.moved.0 c.requires.standing.0 _ _ _ _ _ _ _ _ c.in-Some.ensures.held c.loop-i.invariant.state) c.requires.moved.1 c.requires.standing.1 in
     search rules
 
-pub offset-bounds-moved-i : goal.offset-bounds-moved-i
-offset-bounds-moved-i g c = let k : c.in-Some.i < length c.args.moved.now = in_moved _ _ _ _ (popped _ _ _ _ c.requires.moved.0 c.requires.standing.0 _ _ _ _ _ _ _ _ c.in-Some.ensures.held c.loop-i.invariant.state) in omega arith
+pub offset_bounds-moved-i : goal.offset_bounds-moved-i
+offset_bounds-moved-i g c = let k : c.in-Some.i < length c.args.moved.now = in_moved _ _ _ _ (popped _ _ _ _ c.requires.moved.0 c.requires.standing.0 _ _ _ _ _ _ _ _ c.in-Some.ensures.held c.loop-i.invariant.state) in omega arith
 
 pub bounds-moved-i : goal.bounds-moved-i
 bounds-moved-i g c = in_moved _ _ _ _ (popped _ _ _ _ c.requires.moved.0 c.requires.standing.0 _ _ _ _ _ _ _ _ c.in-Some.ensures.held c.loop-i.invariant.state)
 
-pub offset-bounds-standing-j : goal.offset-bounds-standing-j
-offset-bounds-standing-j g c = let k : c.in-Some.j < length c.args.standing.now = in_standing _ _ _ _ (popped _ _ _ _ c.requires.moved.0 c.requires.standing.0 _ _ _ _ _ _ _ _ c.in-Some.ensures.held c.loop-i.invariant.state) in omega arith
+pub offset_bounds-standing-j : goal.offset_bounds-standing-j
+offset_bounds-standing-j g c = let k : c.in-Some.j < length c.args.standing.now = in_standing _ _ _ _ (popped _ _ _ _ c.requires.moved.0 c.requires.standing.0 _ _ _ _ _ _ _ _ c.in-Some.ensures.held c.loop-i.invariant.state) in omega arith
 
 pub bounds-standing-j : goal.bounds-standing-j
 bounds-standing-j g c = in_standing _ _ _ _ (popped _ _ _ _ c.requires.moved.0 c.requires.standing.0 _ _ _ _ _ _ _ _ c.in-Some.ensures.held c.loop-i.invariant.state)
@@ -65,31 +65,31 @@ loop-i-preserved-then-parted g c = record {
   state = (parted_goes _ _ _ _ (popped _ _ _ _ c.requires.moved.0 c.requires.standing.0 _ _ _ _ _ _ _ _ c.in-Some.ensures.held c.loop-i.invariant.state) c.index-moved-i.result c.index-standing-j.result c.index-moved-i.is c.index-standing-j.is (c.if-parted.ensures.found tt)).state;
 }
 
-pub push-parts-requires : goal.push-parts-requires
-push-parts-requires g c κs n =
+pub push_parts-requires : goal.push_parts-requires
+push_parts-requires g c κs n =
     let s = c.pop.new.self in
     let r = room _ _ _ _ (popped _ _ _ _ c.requires.moved.0 c.requires.standing.0 _ _ _ _ _ _ _ _ c.in-Some.ensures.held c.loop-i.invariant.state) c.index-moved-i.result c.index-standing-j.result c.index-moved-i.is c.index-standing-j.is c.if-parted.ensures.missed n in
     omega (arith, r, length-take-le s.len s.places.now s.within, c.in-Some.ensures.room, c.loop-i.invariant.room)
 
-pub loop-i-smaller-then-push-parts : goal.loop-i-smaller-then-push-parts
-loop-i-smaller-then-push-parts g c = (parts_goes _ _ _ _ (popped _ _ _ _ c.requires.moved.0 c.requires.standing.0 _ _ _ _ _ _ _ _ c.in-Some.ensures.held c.loop-i.invariant.state) c.index-moved-i.result c.index-standing-j.result c.index-moved-i.is c.index-standing-j.is c.if-parted.ensures.missed (not_true _ c.if-push-parts.ensures.parts) _ c.if-push-parts.ensures.held).less
+pub loop-i-smaller-then-push_parts : goal.loop-i-smaller-then-push_parts
+loop-i-smaller-then-push_parts g c = (parts_goes _ _ _ _ (popped _ _ _ _ c.requires.moved.0 c.requires.standing.0 _ _ _ _ _ _ _ _ c.in-Some.ensures.held c.loop-i.invariant.state) c.index-moved-i.result c.index-standing-j.result c.index-moved-i.is c.index-standing-j.is c.if-parted.ensures.missed (not_true _ c.if-push_parts.ensures.parts) _ c.if-push_parts.ensures.held).less
 
-pub loop-i-preserved-then-push-parts : goal.loop-i-preserved-then-push-parts
-loop-i-preserved-then-push-parts g c = record {
-  room = omega (arith, c.if-push-parts.ensures.room, c.in-Some.ensures.room, c.loop-i.invariant.room);
-  state = (parts_goes _ _ _ _ (popped _ _ _ _ c.requires.moved.0 c.requires.standing.0 _ _ _ _ _ _ _ _ c.in-Some.ensures.held c.loop-i.invariant.state) c.index-moved-i.result c.index-standing-j.result c.index-moved-i.is c.index-standing-j.is c.if-parted.ensures.missed (not_true _ c.if-push-parts.ensures.parts) _ c.if-push-parts.ensures.held).state;
+pub loop-i-preserved-then-push_parts : goal.loop-i-preserved-then-push_parts
+loop-i-preserved-then-push_parts g c = record {
+  room = omega (arith, c.if-push_parts.ensures.room, c.in-Some.ensures.room, c.loop-i.invariant.room);
+  state = (parts_goes _ _ _ _ (popped _ _ _ _ c.requires.moved.0 c.requires.standing.0 _ _ _ _ _ _ _ _ c.in-Some.ensures.held c.loop-i.invariant.state) c.index-moved-i.result c.index-standing-j.result c.index-moved-i.is c.index-standing-j.is c.if-parted.ensures.missed (not_true _ c.if-push_parts.ensures.parts) _ c.if-push_parts.ensures.held).state;
 }
 
 pub returns-then-count-pairs : goal.returns-then-count-pairs
-returns-then-count-pairs g c = full _ _ _ _ (popped _ _ _ _ c.requires.moved.0 c.requires.standing.0 _ _ _ _ _ _ _ _ c.in-Some.ensures.held c.loop-i.invariant.state) c.index-moved-i.result c.index-standing-j.result c.index-moved-i.is c.index-standing-j.is c.if-parted.ensures.missed (not_false _ c.if-push-parts.ensures.parts) c.if-count-pairs.true
+returns-then-count-pairs g c = full _ _ _ _ (popped _ _ _ _ c.requires.moved.0 c.requires.standing.0 _ _ _ _ _ _ _ _ c.in-Some.ensures.held c.loop-i.invariant.state) c.index-moved-i.result c.index-standing-j.result c.index-moved-i.is c.index-standing-j.is c.if-parted.ensures.missed (not_false _ c.if-push_parts.ensures.parts) c.if-count-pairs.true
 
 pub loop-i-smaller : goal.loop-i-smaller
-loop-i-smaller g c = (facets_goes _ _ _ _ (popped _ _ _ _ c.requires.moved.0 c.requires.standing.0 _ _ _ _ _ _ _ _ c.in-Some.ensures.held c.loop-i.invariant.state) c.index-moved-i.result c.index-standing-j.result c.index-moved-i.is c.index-standing-j.is c.if-parted.ensures.missed (not_false _ c.if-push-parts.ensures.parts) c.if-count-pairs.false _ c.if-push-parts.ensures.held).less
+loop-i-smaller g c = (facets_goes _ _ _ _ (popped _ _ _ _ c.requires.moved.0 c.requires.standing.0 _ _ _ _ _ _ _ _ c.in-Some.ensures.held c.loop-i.invariant.state) c.index-moved-i.result c.index-standing-j.result c.index-moved-i.is c.index-standing-j.is c.if-parted.ensures.missed (not_false _ c.if-push_parts.ensures.parts) c.if-count-pairs.false _ c.if-push_parts.ensures.held).less
 
 pub loop-i-preserved : goal.loop-i-preserved
 loop-i-preserved g c = record {
-  room = omega (arith, c.if-push-parts.ensures.room, c.in-Some.ensures.room, c.loop-i.invariant.room);
-  state = (facets_goes _ _ _ _ (popped _ _ _ _ c.requires.moved.0 c.requires.standing.0 _ _ _ _ _ _ _ _ c.in-Some.ensures.held c.loop-i.invariant.state) c.index-moved-i.result c.index-standing-j.result c.index-moved-i.is c.index-standing-j.is c.if-parted.ensures.missed (not_false _ c.if-push-parts.ensures.parts) c.if-count-pairs.false _ c.if-push-parts.ensures.held).state;
+  room = omega (arith, c.if-push_parts.ensures.room, c.in-Some.ensures.room, c.loop-i.invariant.room);
+  state = (facets_goes _ _ _ _ (popped _ _ _ _ c.requires.moved.0 c.requires.standing.0 _ _ _ _ _ _ _ _ c.in-Some.ensures.held c.loop-i.invariant.state) c.index-moved-i.result c.index-standing-j.result c.index-moved-i.is c.index-standing-j.is c.if-parted.ensures.missed (not_false _ c.if-push_parts.ensures.parts) c.if-count-pairs.false _ c.if-push_parts.ensures.held).state;
 }
 
 pub returns : goal.returns

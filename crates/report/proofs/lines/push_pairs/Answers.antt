@@ -9,7 +9,7 @@ loop-pair-preserved c =
     let i = c.loop-pair.pair-index in
     let pairs = c.args.pairs.now in
     let before = string_bytes c.args.text.now in
-    c.in-ok-push-line.ensures ∙ (λ j. c.loop-pair.invariant j ++ c.in-ok-pair-line.ensures j) ∙ flat_map_more pair_line_lem before _ _
+    c.in_ok-push_line.ensures ∙ (λ j. c.loop-pair.invariant j ++ c.in_ok-pair_line.ensures j) ∙ flat_map_more pair_line_lem before _ _
     ∙ ap (λ l. before ++ flat_map pair_line_lem l) (sym (take_more pairs i (0, 0) c.loop-pair-test.true))
 
 pub returns : goal.returns

@@ -5,5 +5,5 @@ use Rattle.report.proofs.report.push_comparison.Goals as goal
 
 pub returns : goal.returns
 returns c =
-    let first = c.in-ok-push-line.ensures ∙ ap (λ l. string_bytes c.args.text.now ++ l) c.in-ok-placement-line.ensures in
-    pushed_two _ (string_bytes c.args.text.now) (placement_line_lem c.args.index c.args.count c.args.tests) _ _ (string_bytes c.push-pairs.new.text) first c.push-pairs.ensures
+    let first = c.in_ok-push_line.ensures ∙ ap (λ l. string_bytes c.args.text.now ++ l) c.in_ok-placement_line.ensures in
+    pushed_two _ (string_bytes c.args.text.now) (placement_line_lem c.args.index c.args.count c.args.tests) _ _ (string_bytes c.push_pairs.new.text) first c.push_pairs.ensures

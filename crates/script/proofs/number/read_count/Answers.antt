@@ -7,26 +7,26 @@ use Rattle.std.proofs.lemmas.Str.Parse.{digit_at}
 use Rattle.jobtext.proofs.Numerals.{one_more, short, short_front, is_count_lem, no_digits, many_digits, other_bytes}
 use Rattle.script.proofs.number.read_count.Goals as goal
 
-pub returns-then-not-is-ascii-digit : goal.returns-then-not-is-ascii-digit
-returns-then-not-is-ascii-digit c =
+pub returns-then-not-is_ascii_digit : goal.returns-then-not-is_ascii_digit
+returns-then-not-is_ascii_digit c =
     record {
       value = sym (other_bytes c.args.word.now (λ all.
           let at = digit_at c.args.word.now c.loop-byte.byte-index all c.loop-byte-test.true in
-          ⊎_elim (λ (low : _). omega arith) (λ (high : _). omega arith) c.if-not-is-ascii-digit.ensures.cases));
+          ⊎_elim (λ (low : _). omega arith) (λ (high : _). omega arith) c.if-not_is-ascii-digit.ensures.cases));
       bound = tt;
     }
 
-pub overflow-mul-total : goal.overflow-mul-total
-overflow-mul-total c = let h = short_front c.args.word.now c.loop-byte.byte-index c.loop-byte.invariant.0 c.loop-byte.invariant.2 in omega arith
+pub overflow_mul-total : goal.overflow_mul-total
+overflow_mul-total c = let h = short_front c.args.word.now c.loop-byte.byte-index c.loop-byte.invariant.0 c.loop-byte.invariant.2 in omega arith
 
-pub overflow-add-total : goal.overflow-add-total
-overflow-add-total c =
+pub overflow_add-total : goal.overflow_add-total
+overflow_add-total c =
     let h = short_front c.args.word.now c.loop-byte.byte-index c.loop-byte.invariant.0 c.loop-byte.invariant.2 in
-    omega (arith, c.if-not-is-ascii-digit.ensures.cases)
+    omega (arith, c.if-not_is-ascii-digit.ensures.cases)
 
 pub loop-byte-preserved : goal.loop-byte-preserved
 loop-byte-preserved c =
-    let told = c.if-not-is-ascii-digit.ensures in
+    let told = c.if-not_is-ascii-digit.ensures in
     let w = c.args.word.now in
     let i = c.loop-byte.byte-index in
     let l = c.loop-byte-test.true in
@@ -40,14 +40,14 @@ returns c =
     let whole = subst (AllDigits 10) all c.loop-byte.invariant.2 in
     let same = c.loop-byte.invariant.1 ∙ ap (digits_value 10) all in
     record {
-      value = ap Some same ∙ sym (is_count_lem w (omega (arith, false-eqb _ 0 c.if-is-empty.ensures)) c.loop-byte.invariant.0 whole);
+      value = ap Some same ∙ sym (is_count_lem w (omega (arith, false-eqb _ 0 c.if-is_empty.ensures)) c.loop-byte.invariant.0 whole);
       bound = omega (arith, short w c.loop-byte.invariant.0 whole, same);
     }
 
-pub returns-then-is-empty : goal.returns-then-is-empty
-returns-then-is-empty c =
+pub returns-then-is_empty : goal.returns-then-is_empty
+returns-then-is_empty c =
     let w = c.args.word.now in
     record {
-      value = sym (⊎_elim (λ e. no_digits w (omega (arith, eqb-true (length w) 0 (sym c.is-empty.ensures ∙ e)))) (λ many. many_digits w many.1) c.then-is-empty.either);
+      value = sym (⊎_elim (λ e. no_digits w (omega (arith, eqb-true (length w) 0 (sym c.is_empty.ensures ∙ e)))) (λ many. many_digits w many.1) c.then-is_empty.either);
       bound = tt;
     }

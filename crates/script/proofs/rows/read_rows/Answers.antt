@@ -15,39 +15,39 @@ loop-row-preserved g c =
     let f = g.R.Row.form in
     let inv = c.loop-row.invariant in
     let i = c.loop-row.-row in
-    let q = c.in-ok-request.request in
+    let q = c.in_ok-request.request in
     let left = words c.read.new.input.rest.now in
-    let told = c.in-ok-request.ensures in
+    let told = c.in_ok-request.ensures in
     let at : c.place.result ≡ record { section = c.loop-row.input.section; word = c.loop-row.input.taken + f.width } =
     c.place.ensures ∙ (λ j. record { section = told.section j; word = told.taken j }) in
     let step = rows_more f _ _ _ inv.0 (c.args.count - i) (c.args.count - (i + 1)) _ _ (omega arith) told.reads in (
       inv.0 ++ (record { request = q; blame = c.place.result } ∷ []),
-      grown_more _ _ _ _ _ inv.1 c.in-ok-put.ensures,
+      grown_more _ _ _ _ _ inv.1 c.in_ok-put.ensures,
       told.section ∙ inv.2,
       omega (arith, told.taken, inv.3, add_mul i 1 f.width),
       (λ j. before (inv.0 ++ (record { request = q; blame = at j } ∷ [])) (rows f (c.args.count - (i + 1)) (told.section j) (told.taken j) left)) ∙ sym step ∙ inv.4,
     )
 
-pub returns-in-err-request : goal.returns-in-err-request
-returns-in-err-request g c =
+pub returns-in_err-request : goal.returns-in_err-request
+returns-in_err-request g c =
     let inv = c.loop-row.invariant in
     let i = c.loop-row.-row in
-    let told = c.in-err-request.ensures in
-    let p = err_from_is_err_and c.from-residual.result c.from-residual.ensures.1 in
+    let told = c.in_err-request.ensures in
+    let p = err_from_is_err_and c.from_residual.result c.from_residual.ensures.1 in
     let cut = sym inv.4 ∙ rows_stop g.R.Row.form _ _ _ inv.0 (c.args.count - i) (c.args.count - (i + 1)) _ (omega arith) told.reads in
     record {
       section = told.section ∙ inv.2;
-      taken = IfOk-from_err _ _ c.from-residual.ensures.0;
+      taken = IfOk-from_err _ _ c.from_residual.ensures.0;
       ran = ran_fault _ _ _ _ _ _ _ _ p.1 p.2 inv.1 cut;
     }
 
-pub returns-in-err-put : goal.returns-in-err-put
-returns-in-err-put g c =
-    let told = c.in-ok-request.ensures in
-    let p = err_from_is_err_and c.from-residual-in-err-put.result c.from-residual-in-err-put.ensures.1 in
+pub returns-in_err-put : goal.returns-in_err-put
+returns-in_err-put g c =
+    let told = c.in_ok-request.ensures in
+    let p = err_from_is_err_and c.from_residual-in_err-put.result c.from_residual-in_err-put.ensures.1 in
     record {
       section = told.section ∙ c.loop-row.invariant.2;
-      taken = IfOk-from_err _ _ c.from-residual-in-err-put.ensures.0;
+      taken = IfOk-from_err _ _ c.from_residual-in_err-put.ensures.0;
       ran = ran_out _ _ _ _ _ _ p.1 p.2;
     }
 

@@ -4,21 +4,21 @@ use Rattle.jobtext.specs.Readings.{facets_of}
 use Rattle.script.proofs.Growth.{ran_out, grown_at, rows_at, asked_ran, then_fault, then_ran}
 use Rattle.script.proofs.sections.read_facets.Goals as goal
 
-pub returns-in-err-count : goal.returns-in-err-count
+pub returns-in_err-count : goal.returns-in_err-count
 unfolding facets_of
-returns-in-err-count c =
-    let p = err_from_is_err_and c.from-residual.result c.from-residual.ensures.1 in
-    then_fault _ _ _ _ _ _ _ p.1 p.2 c.in-err-count.ensures.reads
+returns-in_err-count c =
+    let p = err_from_is_err_and c.from_residual.result c.from_residual.ensures.1 in
+    then_fault _ _ _ _ _ _ _ p.1 p.2 c.in_err-count.ensures.reads
 
-pub returns-in-err-put : goal.returns-in-err-put
-returns-in-err-put c =
-    let p = err_from_is_err_and c.from-residual-in-err-put.result c.from-residual-in-err-put.ensures.1 in
+pub returns-in_err-put : goal.returns-in_err-put
+returns-in_err-put c =
+    let p = err_from_is_err_and c.from_residual-in_err-put.result c.from_residual-in_err-put.ensures.1 in
     ran_out _ _ _ _ _ _ p.1 p.2
 
 pub returns : goal.returns
 unfolding facets_of
 returns c =
-    let told = c.in-ok-count.ensures in
-    let started = grown_at _ _ _ _ _ _ _ _ c.place.ensures told.section told.taken c.in-ok-put.ensures in
-    let entered = rows_at facet _ _ _ _ _ _ _ _ _ _ told.section told.taken c.read-rows.ensures.ran in
+    let told = c.in_ok-count.ensures in
+    let started = grown_at _ _ _ _ _ _ _ _ c.place.ensures told.section told.taken c.in_ok-put.ensures in
+    let entered = rows_at facet _ _ _ _ _ _ _ _ _ _ told.section told.taken c.read_rows.ensures.ran in
     then_ran _ _ _ _ _ _ _ _ told.reads (asked_ran _ _ _ _ _ _ _ _ _ started entered)

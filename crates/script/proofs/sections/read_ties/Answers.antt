@@ -5,30 +5,30 @@ use Rattle.jobtext.specs.Readings.{ties_of}
 use Rattle.script.proofs.Growth.{ran_out, grown_none, grown_at, rows_at, asked_ran, then_fault, then_ran, onward_ran, onward_stop}
 use Rattle.script.proofs.sections.read_ties.Goals as goal
 
-pub returns-in-err-count : goal.returns-in-err-count
+pub returns-in_err-count : goal.returns-in_err-count
 unfolding ties_of
-returns-in-err-count c =
-    let p = err_from_is_err_and c.from-residual.result c.from-residual.ensures.1 in
-    then_fault _ _ _ _ _ _ _ p.1 p.2 c.in-err-count.ensures.reads
+returns-in_err-count c =
+    let p = err_from_is_err_and c.from_residual.result c.from_residual.ensures.1 in
+    then_fault _ _ _ _ _ _ _ p.1 p.2 c.in_err-count.ensures.reads
 
-pub returns-in-err-read-rows : goal.returns-in-err-read-rows
+pub returns-in_err-read_rows : goal.returns-in_err-read_rows
 unfolding ties_of
-returns-in-err-read-rows c =
-    let told = c.in-ok-count.ensures in
-    let p = err_from_is_err_and c.from-residual-in-err-read-rows.result c.from-residual-in-err-read-rows.ensures.1 in
+returns-in_err-read_rows c =
+    let told = c.in_ok-count.ensures in
+    let p = err_from_is_err_and c.from_residual-in_err-read_rows.result c.from_residual-in_err-read_rows.ensures.1 in
     then_ran _ _ _ _ _ _ _ _ told.reads
-    (onward_stop _ _ _ _ _ _ _ _ _ p.1 p.2 (rows_at tie _ _ _ _ _ _ _ _ _ _ told.section told.taken c.in-err-read-rows.ensures.ran))
+    (onward_stop _ _ _ _ _ _ _ _ _ p.1 p.2 (rows_at tie _ _ _ _ _ _ _ _ _ _ told.section told.taken c.in_err-read_rows.ensures.ran))
 
-pub returns-in-err-put : goal.returns-in-err-put
-returns-in-err-put c =
-    let p = err_from_is_err_and c.from-residual-in-err-put.result c.from-residual-in-err-put.ensures.1 in
+pub returns-in_err-put : goal.returns-in_err-put
+returns-in_err-put c =
+    let p = err_from_is_err_and c.from_residual-in_err-put.result c.from_residual-in_err-put.ensures.1 in
     ran_out _ _ _ _ _ _ p.1 p.2
 
 pub returns : goal.returns
 unfolding ties_of
 returns c =
-    let told = c.in-ok-count.ensures in
-    let rows = c.in-ok-read-rows.ensures in
+    let told = c.in_ok-count.ensures in
+    let rows = c.in_ok-read_rows.ensures in
     let entered = rows_at tie _ _ _ _ _ _ _ _ _ _ told.section told.taken rows.ran in
-    let closed = grown_at _ _ _ _ _ _ _ _ c.place.ensures (rows.section ∙ told.section) (rows.taken ∙ ap (λ k. k + c.in-ok-count.count * 2) told.taken) c.in-ok-put.ensures in
+    let closed = grown_at _ _ _ _ _ _ _ _ c.place.ensures (rows.section ∙ told.section) (rows.taken ∙ ap (λ k. k + c.in_ok-count.count * 2) told.taken) c.in_ok-put.ensures in
     then_ran _ _ _ _ _ _ _ _ told.reads (onward_ran _ _ _ _ _ _ _ _ entered (asked_ran _ _ _ _ _ _ _ _ _ closed (record { outcome = (grown_none _, refl) })))

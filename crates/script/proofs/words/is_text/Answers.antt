@@ -7,5 +7,5 @@ use Rattle.script.proofs.words.is_text.Goals as goal
 pub returns : goal.returns
 returns c =
     let w = c.args.word.now in
-    let t = c.as-bytes.result.now in
-    same_from_decides c.eq.result (bytes_eq w t) (slice_eq-Decides Decides-eqb w t _ c.eq.ensures) (bytes_eq-Decides w t) ∙ ap (bytes_eq w) c.as-bytes.ensures.value
+    let t = c.as_bytes.result.now in
+    same_from_decides c.eq.result (bytes_eq w t) (slice_eq-Decides Decides-eqb w t _ c.eq.ensures) (bytes_eq-Decides w t) ∙ ap (bytes_eq w) c.as_bytes.ensures.value

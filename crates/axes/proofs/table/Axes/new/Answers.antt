@@ -12,10 +12,10 @@ pub loop-i-preserved : goal.loop-i-preserved
 loop-i-preserved c =
     let l = c.loop-i in
     let h : c.loop-i.i < axis_count = omega arith in
-    one_more c.args.p l.each l.i c.separating-axis.result h l.invariant.0 l.invariant.1 (c.separating-axis.ensures ∙ ap (rounded_axis c.args.p) c.axis-of-in-loop-i.ensures)
+    one_more c.args.p l.each l.i c.separating_axis.result h l.invariant.0 l.invariant.1 (c.separating_axis.ensures ∙ ap (rounded_axis c.args.p) c.axis_of-in-loop-i.ensures)
 
-pub invariant-of-result : goal.invariant-of-result
-invariant-of-result c =
+pub invariant_of-result : goal.invariant_of-result
+invariant_of-result c =
     let l = c.loop-i in
     let e : c.loop-i.i ≡ axis_count = omega arith in
     (all_there c.args.p l.each l.invariant.0 (subst (λ n. take n l.each ≡ take n (separating_axes c.args.p)) e l.invariant.1), tt)

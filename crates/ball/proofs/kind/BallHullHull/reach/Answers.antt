@@ -7,8 +7,8 @@ use Rattle.hull.specs.Units.{corner_limit, direction_limit, reach_unit}
 use Rattle.ball.specs.Balls.{ball_reach_lem}
 use Rattle.ball.proofs.kind.BallHullHull.reach.Goals as goal
 
-pub overflow-add-dot : goal.overflow-add-dot
-overflow-add-dot c =
+pub overflow_add-dot : goal.overflow_add-dot
+overflow_add-dot c =
     sum_fits w128 c.dot.result c.extent.result (3 * (direction_limit * corner_limit)) (2 ^ 64) c.dot.ensures.bound c.extent.ensures.bound (lit< tt)
 
 pub returns : goal.returns
@@ -17,6 +17,6 @@ returns c =
     let u = c.args.u.now in
     let s = sum_is w128 c.dot.result c.extent.result (3 * (direction_limit * corner_limit)) (2 ^ 64) c.dot.ensures.bound c.extent.ensures.bound (lit< tt) in
     let t = ap₂ ◌+ℤ◌ c.dot.ensures.value (c.extent.ensures.value ∙ ap (λ (n : ℕ). pos (h.radius * n)) u.as_long) in
-    let e : c.in-units.result ≡ ball_reach_lem h u = c.in-units.ensures ∙ ap (λ (z : ℤ). div_up z reach_unit) (s ∙ t) in
-    let f : SFits w64 c.in-units.result = search rules in
+    let e : c.in_units.result ≡ ball_reach_lem h u = c.in_units.ensures ∙ ap (λ (z : ℤ). div_up z reach_unit) (s ∙ t) in
+    let f : SFits w64 c.in_units.result = search rules in
     simp to_z-of_z e

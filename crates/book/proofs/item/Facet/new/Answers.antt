@@ -4,22 +4,22 @@ use Rattle.book.specs.Facets.{fits_at, within, facet_of}
 use Rattle.book.specs.declared.item.Facet.{Facet}
 use Rattle.book.proofs.item.Facet.new.Goals as goal
 
-pub returns-in-err-a : goal.returns-in-err-a
+pub returns-in_err-a : goal.returns-in_err-a
 unfolding within
-returns-in-err-a c = rw c.from-residual.ensures (and_left _ _ c.in-err-a.ensures)
+returns-in_err-a c = rw c.from_residual.ensures (and_left _ _ c.in_err-a.ensures)
 
-pub returns-in-err-b : goal.returns-in-err-b
+pub returns-in_err-b : goal.returns-in_err-b
 unfolding within
-returns-in-err-b c = let n = c.args.numbers in rw c.from-residual-in-err-b.ensures (and_right (fits_at n 0) _ (and_left _ (fits_at n 6) c.in-err-b.ensures))
+returns-in_err-b c = let n = c.args.numbers in rw c.from_residual-in_err-b.ensures (and_right (fits_at n 0) _ (and_left _ (fits_at n 6) c.in_err-b.ensures))
 
-pub returns-in-err-c : goal.returns-in-err-c
+pub returns-in_err-c : goal.returns-in_err-c
 unfolding within
-returns-in-err-c c = let n = c.args.numbers in rw c.from-residual-in-err-c.ensures (and_right (fits_at n 0) _ (and_right (fits_at n 3) _ c.in-err-c.ensures))
+returns-in_err-c c = let n = c.args.numbers in rw c.from_residual-in_err-c.ensures (and_right (fits_at n 0) _ (and_right (fits_at n 3) _ c.in_err-c.ensures))
 
 pub returns : goal.returns
 unfolding within facet_of
 returns c =
-    let a = c.in-ok-a.ensures in
-    let b = c.in-ok-b.ensures in
-    let d = c.in-ok-c.ensures in
+    let a = c.in_ok-a.ensures in
+    let b = c.in_ok-b.ensures in
+    let d = c.in_ok-c.ensures in
     (and_from _ _ a.0 (and_from _ _ b.0 d.0), λ i. record { a = a.1 i; b = b.1 i; c = d.1 i })

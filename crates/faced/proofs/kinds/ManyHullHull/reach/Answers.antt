@@ -9,13 +9,13 @@ use Rattle.faced.specs.Terms.{terms}
 use Rattle.faced.proofs.Reaches.{terms_reach, faces_within}
 use Rattle.faced.proofs.kinds.ManyHullHull.reach.Goals as goal
 
-pub reach-along-requires : goal.reach-along-requires
-reach-along-requires c =
+pub reach_along-requires : goal.reach_along-requires
+reach_along-requires c =
     let u = c.args.u.now in
     (lit< tt, subst (λ (ws : List FaceWeight). All (λ (w : FaceWeight). w.face < 26) ws) (sym u.on_many) (faces_within 26 (many_weights u.x u.y u.z) (many_decomposes u).listed))
 
 pub returns : goal.returns
 returns c =
     let u = c.args.u.now in
-    let e = to_z-of_z w64 c.reach-along.result (record { sfits = c.reach-along.type-inv }) ∙ c.reach-along.ensures ∙ ap (terms c.args.self.now.supports) u.on_many ∙ terms_reach c.args.self.now.supports (many_weights u.x u.y u.z) in
+    let e = to_z-of_z w64 c.reach_along.result (record { sfits = c.reach_along.type_inv }) ∙ c.reach_along.ensures ∙ ap (terms c.args.self.now.supports) u.on_many ∙ terms_reach c.args.self.now.supports (many_weights u.x u.y u.z) in
     record { value = e; free = in_any_order c.args.self.now.supports u.x u.y u.z _ e }

@@ -3,25 +3,25 @@ use Rattle.std.proofs.lemmas.Int.{to_z-of_z}
 use Rattle.placement.proofs.Numbers.{entries_are, ranges}
 use Rattle.placement.proofs.parts.Placement.new.Goals as goal
 
-pub returns-in-err-x : goal.returns-in-err-x
-returns-in-err-x c =
+pub returns-in_err-x : goal.returns-in_err-x
+returns-in_err-x c =
     let e : length c.args.n ≡ 12 = search rules in
-    simp c.from-residual.ensures (λ h. c.in-err-x.ensures (ranges c.args.n e h).0)
+    simp c.from_residual.ensures (λ h. c.in_err-x.ensures (ranges c.args.n e h).0)
 
-pub returns-in-err-y : goal.returns-in-err-y
-returns-in-err-y c =
+pub returns-in_err-y : goal.returns-in_err-y
+returns-in_err-y c =
     let e : length c.args.n ≡ 12 = search rules in
-    simp c.from-residual-in-err-y.ensures (λ h. c.in-err-y.ensures (ranges c.args.n e h).1)
+    simp c.from_residual-in_err-y.ensures (λ h. c.in_err-y.ensures (ranges c.args.n e h).1)
 
-pub returns-in-err-z : goal.returns-in-err-z
-returns-in-err-z c =
+pub returns-in_err-z : goal.returns-in_err-z
+returns-in_err-z c =
     let e : length c.args.n ≡ 12 = search rules in
-    simp c.from-residual-in-err-z.ensures (λ h. c.in-err-z.ensures (ranges c.args.n e h).2)
+    simp c.from_residual-in_err-z.ensures (λ h. c.in_err-z.ensures (ranges c.args.n e h).2)
 
-pub returns-in-err-shift : goal.returns-in-err-shift
-returns-in-err-shift c =
+pub returns-in_err-shift : goal.returns-in_err-shift
+returns-in_err-shift c =
     let e : length c.args.n ≡ 12 = search rules in
-    simp c.from-residual-in-err-shift.ensures (λ h. c.in-err-shift.ensures (ranges c.args.n e h).3)
+    simp c.from_residual-in_err-shift.ensures (λ h. c.in_err-shift.ensures (ranges c.args.n e h).3)
 
 pub returns : goal.returns
 returns c =
@@ -39,4 +39,4 @@ returns c =
     let f9 : SFits w64 (get_or c.args.n 9 (pos 0)) = search rules in
     let f10 : SFits w64 (get_or c.args.n 10 (pos 0)) = search rules in
     let f11 : SFits w64 (get_or c.args.n 11 (pos 0)) = search rules in
-    entries_are (record { x = c.in-ok-x.x; y = c.in-ok-y.y; z = c.in-ok-z.z; shift = c.in-ok-shift.shift }) n e (simp to_z-of_z at c.in-ok-x.ensures) (simp to_z-of_z at c.in-ok-y.ensures) (simp to_z-of_z at c.in-ok-z.ensures) (simp to_z-of_z at c.in-ok-shift.ensures)
+    entries_are (record { x = c.in_ok-x.x; y = c.in_ok-y.y; z = c.in_ok-z.z; shift = c.in_ok-shift.shift }) n e (simp to_z-of_z at c.in_ok-x.ensures) (simp to_z-of_z at c.in_ok-y.ensures) (simp to_z-of_z at c.in_ok-z.ensures) (simp to_z-of_z at c.in_ok-shift.ensures)

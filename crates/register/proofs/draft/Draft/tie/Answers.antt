@@ -14,10 +14,10 @@ use Rattle.register.proofs.Entering.{page_items, page_heights, page_tieds, page_
 use Rattle.register.proofs.draft.Draft.tie.Goals as goal
 
 pub returns-then-not-holds : goal.returns-then-not-holds
-returns-then-not-holds g c = record { said = other_draft (book_of c.args.register.now) _ _ c.args.self.mark refl (sym c.holds.ensures ∙ c.if-not-holds.true); back = refl; table = refl; grown = λ w. w; lent = refl }
+returns-then-not-holds g c = record { said = other_draft (book_of c.args.register.now) _ _ c.args.self.mark refl (sym c.holds.ensures ∙ c.if-not_holds.true); back = refl; table = refl; grown = λ w. w; lent = refl }
 
-pub free-parts-requires : goal.free-parts-requires
-free-parts-requires g c = page_tieds c.args.register.now _ c.page-page.ensures
+pub free_parts-requires : goal.free_parts-requires
+free_parts-requires g c = page_tieds c.args.register.now _ c.page-page.ensures
 
 -- what the two numbers are, whatever casts they went through
 parts : (p : List Item) (x y : ℤ) (i k : ℕ) → SFits w64 x → SFits w64 y → FreeParts p (to_z w64 (of_z w64 x)) (to_z w64 (of_z w64 y)) i k → FreeParts p x y i k
@@ -27,7 +27,7 @@ pub returns-in-default : goal.returns-in-default
 unfolding book_of
 returns-in-default g c =
     let r = c.args.register.now in
-    let h = sym c.holds.ensures ∙ c.if-not-holds.false in
+    let h = sym c.holds.ensures ∙ c.if-not_holds.false in
     let fx = c.ranges.x in
     let fy = c.ranges.y in
     let no : joins (items_of c.page-page.result.now) c.args.x c.args.y ≡ false = simp to_z-of_z at c.in-default.ensures in
@@ -39,8 +39,8 @@ returns-in-default g c =
       lent = refl;
     }
 
-pub tie-height-height-requires : goal.tie-height-height-requires
-tie-height-height-requires g c =
+pub tie_height-height-requires : goal.tie_height-height-requires
+tie_height-height-requires g c =
     let r = c.args.register.now in
     let e = c.page-page.ensures in
     let f = c.in-Some.ensures in
@@ -50,18 +50,18 @@ pub returns-then-height-gt-HEIGHT : goal.returns-then-height-gt-HEIGHT
 returns-then-height-gt-HEIGHT g c =
     let f = parts _ _ _ _ _ c.ranges.x c.ranges.y c.in-Some.ensures in
     record {
-      said = too_high c.args.register.now _ c.page-page.ensures _ _ _ _ f _ c.tie-height-height.ensures c.args.self.mark (sym c.holds.ensures ∙ c.if-not-holds.false) c.if-height-gt-HEIGHT.true;
+      said = too_high c.args.register.now _ c.page-page.ensures _ _ _ _ f _ c.tie_height-height.ensures c.args.self.mark (sym c.holds.ensures ∙ c.if-not_holds.false) c.if-height-gt-HEIGHT.true;
       back = refl;
       table = refl;
       grown = λ w. w;
       lent = refl;
     }
 
-pub returns-then-not-has-room : goal.returns-then-not-has-room
-returns-then-not-has-room g c =
+pub returns-then-not-has_room : goal.returns-then-not-has_room
+returns-then-not-has_room g c =
     let f = parts _ _ _ _ _ c.ranges.x c.ranges.y c.in-Some.ensures in
     record {
-      said = table_full c.args.register.now _ c.page-page.ensures _ _ _ _ f _ c.tie-height-height.ensures c.args.self.mark (sym c.holds.ensures ∙ c.if-not-holds.false) c.if-height-gt-HEIGHT.false (sym c.has-room.ensures.room ∙ c.if-not-has-room.true);
+      said = table_full c.args.register.now _ c.page-page.ensures _ _ _ _ f _ c.tie_height-height.ensures c.args.self.mark (sym c.holds.ensures ∙ c.if-not_holds.false) c.if-height-gt-HEIGHT.false (sym c.has_room.ensures.room ∙ c.if-not_has-room.true);
       back = refl;
       table = refl;
       grown = λ w. w;
@@ -71,20 +71,20 @@ returns-then-not-has-room g c =
 pub bounds-page-left : goal.bounds-page-left
 bounds-page-left g c = i_in c.args.register.now _ c.page-page.ensures _ _ _ _ c.in-Some.ensures
 
-pub offset-bounds-page-left : goal.offset-bounds-page-left
-offset-bounds-page-left g c = let h = i_in c.args.register.now _ c.page-page.ensures _ _ _ _ c.in-Some.ensures in omega arith
+pub offset_bounds-page-left : goal.offset_bounds-page-left
+offset_bounds-page-left g c = let h = i_in c.args.register.now _ c.page-page.ensures _ _ _ _ c.in-Some.ensures in omega arith
 
-pub overflow-cast-tie : goal.overflow-cast-tie
-overflow-cast-tie g c = let n = i_small c.args.register.now _ c.page-page.ensures _ _ _ _ c.in-Some.ensures in search rules
+pub overflow_cast-tie : goal.overflow_cast-tie
+overflow_cast-tie g c = let n = i_small c.args.register.now _ c.page-page.ensures _ _ _ _ c.in-Some.ensures in search rules
 
-pub overflow-cast-tie-2 : goal.overflow-cast-tie-2
-overflow-cast-tie-2 g c = let n = k_small c.args.register.now _ c.page-page.ensures _ _ _ _ c.in-Some.ensures in search rules
+pub overflow_cast-tie-2 : goal.overflow_cast-tie-2
+overflow_cast-tie-2 g c = let n = k_small c.args.register.now _ c.page-page.ensures _ _ _ _ c.in-Some.ensures in search rules
 
-pub overflow-cast-right : goal.overflow-cast-right
-overflow-cast-right g c = let n = k_small c.args.register.now _ c.page-page.ensures _ _ _ _ c.in-Some.ensures in search rules
+pub overflow_cast-right : goal.overflow_cast-right
+overflow_cast-right g c = let n = k_small c.args.register.now _ c.page-page.ensures _ _ _ _ c.in-Some.ensures in search rules
 
-pub over-item-requires : goal.over-item-requires
-over-item-requires g c =
+pub over_item-requires : goal.over_item-requires
+over_item-requires g c =
     let r = c.args.register.now in
     (page_sane r _ c.page-page.ensures, k_in r _ c.page-page.ensures _ _ _ _ c.in-Some.ensures)
 
@@ -92,12 +92,12 @@ pub join-requires : goal.join-requires
 unfolding book_of
 join-requires g c =
     let r = c.args.register.now in
-    let h = sym c.holds.ensures ∙ c.if-not-holds.false in
-    may_join r _ c.page-page.ensures _ _ _ _ c.in-Some.ensures _ c.tie-height-height.ensures _ (here_parts r.ledger _ c.args.self.mark h).0
-    (ltb-true _ _ (sym c.has-room.ensures.below ∙ c.if-not-has-room.false)) c.if-height-gt-HEIGHT.false refl refl refl
+    let h = sym c.holds.ensures ∙ c.if-not_holds.false in
+    may_join r _ c.page-page.ensures _ _ _ _ c.in-Some.ensures _ c.tie_height-height.ensures _ (here_parts r.ledger _ c.args.self.mark h).0
+    (ltb-true _ _ (sym c.has_room.ensures.below ∙ c.if-not_has-room.false)) c.if-height-gt-HEIGHT.false refl refl refl
 
-pub overflow-cast-result : goal.overflow-cast-result
-overflow-cast-result g c = let n = page_small c.args.register.now _ c.page-page.ensures in search rules
+pub overflow_cast-result : goal.overflow_cast-result
+overflow_cast-result g c = let n = page_small c.args.register.now _ c.page-page.ensures in search rules
 
 pub returns : goal.returns
 unfolding book_of
@@ -106,23 +106,23 @@ returns g c =
     let m = c.args.self.mark in
     let a = c.in-Some.left in
     let b = c.in-Some.right in
-    let h = sym c.holds.ensures ∙ c.if-not-holds.false in
+    let h = sym c.holds.ensures ∙ c.if-not_holds.false in
     let o = (here_parts r.ledger _ m h).0 in
     let e = c.page-page.ensures in
     let f = parts _ _ _ _ _ c.ranges.x c.ranges.y c.in-Some.ensures in
     let low = c.if-height-gt-HEIGHT.false in
-    let k = c.tie-height-height.ensures in
-    let tie : _ = record { item = item.Tie a b; height = c.tie-height-height.result; tied = false; hull = c.over-item.result } in
-    let j = may_join r _ e _ _ a b f _ k tie o (ltb-true _ _ (sym c.has-room.ensures.below ∙ c.if-not-has-room.false)) low refl refl refl in
+    let k = c.tie_height-height.ensures in
+    let tie : _ = record { item = item.Tie a b; height = c.tie_height-height.result; tied = false; hull = c.over_item.result } in
+    let j = may_join r _ e _ _ a b f _ k tie o (ltb-true _ _ (sym c.has_room.ensures.below ∙ c.if-not_has-room.false)) low refl refl refl in
     let t = c.join.new.self.table.now in
     let w = c.join.ensures.table in
     let is : item.Tie a b ≡ item.Tie (nat_abs c.args.x) (nat_abs c.args.y) = sym (ap (λ (z : ℤ). item.Tie (nat_abs z) (nat_abs c.args.y)) f.x_is ∙ ap (λ (z : ℤ). item.Tie a (nat_abs z)) f.y_is) in
     record {
-      said = goes (book_of r) _ _ _ (accepted r _ e _ _ _ _ f _ k m h low (sym c.has-room.ensures.room ∙ c.if-not-has-room.false))
+      said = goes (book_of r) _ _ _ (accepted r _ e _ _ _ _ f _ k m h low (sym c.has_room.ensures.room ∙ c.if-not_has-room.false))
           (ap answer.Entered (page_count r _ e ∙ sym (written_length _ _ _ _ _ (sound r) (length_items r.table.now) o)))
           (book_after r a b tie j t w _ c.join.ensures.ledger ∙ ap (added (book_of r)) is);
       back = refl;
-      table = tie_stands r _ e _ a b c.index-page-left.result (i_in r _ e _ _ _ _ f) c.index-page-left.is _ c.over-item.ensures _ _ f _ k tie refl j t w;
-      grown = λ v. grown_after r a b tie j t w _ c.join.ensures.ledger _ _ (hull_grown r _ e _ a b c.index-page-left.result (i_in r _ e _ _ _ _ f) c.index-page-left.is _ c.over-item.ensures _ v.page) v;
+      table = tie_stands r _ e _ a b c.index-page-left.result (i_in r _ e _ _ _ _ f) c.index-page-left.is _ c.over_item.ensures _ _ f _ k tie refl j t w;
+      grown = λ v. grown_after r a b tie j t w _ c.join.ensures.ledger _ _ (hull_grown r _ e _ a b c.index-page-left.result (i_in r _ e _ _ _ _ f) c.index-page-left.is _ c.over_item.ensures _ v.page) v;
       lent = c.join.ensures.lent;
     }

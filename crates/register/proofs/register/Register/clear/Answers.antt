@@ -4,5 +4,5 @@ use Rattle.book.proofs.LedgerLaws.{sound_cleared}
 use Rattle.register.proofs.Fields.{spread, sound}
 use Rattle.register.proofs.register.Register.clear.Goals as goal
 
-pub invariant-of-self : goal.invariant-of-self
-invariant-of-self g c = let r = c.args.self.now in spread _ _ (sound_cleared _ _ _ _ _ (sound r) false (λ e. absurd (false≢true e)) _ _) r.alone
+pub invariant_of-self : goal.invariant_of-self
+invariant_of-self g c = let r = c.args.self.now in spread _ _ (sound_cleared _ _ _ _ _ (sound r) false (λ e. absurd (false≢true e)) _ _) r.alone

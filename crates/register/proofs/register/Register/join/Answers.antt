@@ -5,50 +5,50 @@ use Rattle.register.proofs.Fields.{spread}
 use Rattle.register.proofs.Entering.{off, x_place, y_place, at_place, some_loose, items_off, length_off, ghosts_off, joined3, ghosts3}
 use Rattle.register.proofs.register.Register.join.Goals as goal
 
-pub overflow-sub-loose : goal.overflow-sub-loose
-overflow-sub-loose g c = some_loose _ _ _ _ c.requires
+pub overflow_sub-loose : goal.overflow_sub-loose
+overflow_sub-loose g c = some_loose _ _ _ _ c.requires
 
-pub offset-bounds-self-i : goal.offset-bounds-self-i
-offset-bounds-self-i g c = scaled_Fits _ _ _ (x_place _ _ _ _ c.requires) (search rules)
+pub offset_bounds-self-i : goal.offset_bounds-self-i
+offset_bounds-self-i g c = scaled_Fits _ _ _ (x_place _ _ _ _ c.requires) (search rules)
 
 pub bounds-self-i : goal.bounds-self-i
 bounds-self-i g c = x_place _ _ _ _ c.requires
 
-pub offset-bounds-self-j : goal.offset-bounds-self-j
-offset-bounds-self-j g c = scaled_Fits _ _ _ (y_place _ _ _ _ c.requires) (search rules)
+pub offset_bounds-self-j : goal.offset_bounds-self-j
+offset_bounds-self-j g c = scaled_Fits _ _ _ (y_place _ _ _ _ c.requires) (search rules)
 
 pub bounds-self-j : goal.bounds-self-j
 bounds-self-j g c = y_place _ _ _ _ c.requires
 
-pub invariant-of-self : goal.invariant-of-self
-invariant-of-self g c = let r = c.args.self.now in spread _ _ (off r r.table.now refl refl) r.alone
+pub invariant_of-self : goal.invariant_of-self
+invariant_of-self g c = let r = c.args.self.now in spread _ _ (off r r.table.now refl refl) r.alone
 
-pub offset-bounds-self-i-2 : goal.offset-bounds-self-i-2
-offset-bounds-self-i-2 g c = scaled_Fits _ _ _ (x_place _ _ _ _ c.requires) (search rules)
+pub offset_bounds-self-i-2 : goal.offset_bounds-self-i-2
+offset_bounds-self-i-2 g c = scaled_Fits _ _ _ (x_place _ _ _ _ c.requires) (search rules)
 
 pub bounds-self-i-2 : goal.bounds-self-i-2
 bounds-self-i-2 g c = x_place _ _ _ _ c.requires
 
-pub invariant-of-self-2 : goal.invariant-of-self-2
-invariant-of-self-2 g c = let r = c.args.self.now in ghosts_off r r.table.now refl refl _ c.index-self-i.result _ (x_place _ _ _ _ c.requires) refl
+pub invariant_of-self-2 : goal.invariant_of-self-2
+invariant_of-self-2 g c = let r = c.args.self.now in ghosts_off r r.table.now refl refl _ c.index-self-i.result _ (x_place _ _ _ _ c.requires) refl
 
-pub offset-bounds-self-j-2 : goal.offset-bounds-self-j-2
-offset-bounds-self-j-2 g c = scaled_Fits _ _ _ (y_place _ _ _ _ c.requires) (search rules)
+pub offset_bounds-self-j-2 : goal.offset_bounds-self-j-2
+offset_bounds-self-j-2 g c = scaled_Fits _ _ _ (y_place _ _ _ _ c.requires) (search rules)
 
 pub bounds-self-j-2 : goal.bounds-self-j-2
 bounds-self-j-2 g c = simp length-set (y_place _ _ _ _ c.requires)
 
-pub invariant-of-self-3 : goal.invariant-of-self-3
-invariant-of-self-3 g c =
+pub invariant_of-self-3 : goal.invariant_of-self-3
+invariant_of-self-3 g c =
     let r = c.args.self.now in
     let h = x_place _ _ _ _ c.requires in
     ghosts_off r _ (length_off r _ refl refl _ c.index-self-i.result _ h refl) (items_off r _ refl refl _ c.index-self-i.result _ h refl) _ c.index-self-j.result _ (y_place _ _ _ _ c.requires) refl
 
-pub offset-bounds-self-at : goal.offset-bounds-self-at
-offset-bounds-self-at g c = scaled_Fits _ _ _ (at_place _ _ _ _ c.requires) (search rules)
+pub offset_bounds-self-at : goal.offset_bounds-self-at
+offset_bounds-self-at g c = scaled_Fits _ _ _ (at_place _ _ _ _ c.requires) (search rules)
 
-pub invariant-of-self-4 : goal.invariant-of-self-4
-invariant-of-self-4 g c = ghosts3 _ _ _ _ c.requires c.index-self-i.result c.index-self-j.result
+pub invariant_of-self-4 : goal.invariant_of-self-4
+invariant_of-self-4 g c = ghosts3 _ _ _ _ c.requires c.index-self-i.result c.index-self-j.result
 
 pub returns : goal.returns
 returns g c = record { ledger = refl; table = joined3 _ _ _ _ c.requires c.index-self-i.result c.index-self-j.result; lent = refl }

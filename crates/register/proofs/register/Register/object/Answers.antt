@@ -19,14 +19,14 @@ returns-in-default g c =
     let f : SFits w64 c.args.number = search rules in
     closed_no c.args.self.now c.args.number (simp to_z-of_z at c.in-default.ensures)
 
-pub offset-bounds-table-from : goal.offset-bounds-table-from
-offset-bounds-table-from g c = let e = within c.args.self.now c.in-Some.k c.in-Some.ensures.1 (record { from = 0; to = 0 }) in omega arith
+pub offset_bounds-table-from : goal.offset_bounds-table-from
+offset_bounds-table-from g c = let e = within c.args.self.now c.in-Some.k c.in-Some.ensures.1 (record { from = 0; to = 0 }) in omega arith
 
-pub slice-bounds-result-count : goal.slice-bounds-result-count
-slice-bounds-result-count g c = (within c.args.self.now c.in-Some.k c.in-Some.ensures.1 (record { from = 0; to = 0 })).0
+pub slice_bounds-result-count : goal.slice_bounds-result-count
+slice_bounds-result-count g c = (within c.args.self.now c.in-Some.k c.in-Some.ensures.1 (record { from = 0; to = 0 })).0
 
-pub slice-bounds-result-start : goal.slice-bounds-result-start
-slice-bounds-result-start g c = let e = within c.args.self.now c.in-Some.k c.in-Some.ensures.1 (record { from = 0; to = 0 }) in search rules
+pub slice_bounds-result-start : goal.slice_bounds-result-start
+slice_bounds-result-start g c = let e = within c.args.self.now c.in-Some.k c.in-Some.ensures.1 (record { from = 0; to = 0 }) in search rules
 
 pub returns : goal.returns
 unfolding slice

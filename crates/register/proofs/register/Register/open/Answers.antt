@@ -12,8 +12,8 @@ use Rattle.register.proofs.register.Register.open.Goals.{then-table-lt-PLACES, e
 ends : (g : _) (c : goal.Joined-table-lt-PLACES g) → c.if-table-lt-PLACES.end ≡ min (length c.args.table.now) place_limit
 ends g c = elim c.if-table-lt-PLACES.branch [ then-table-lt-PLACES w ↦ omega (arith, w.end-is, w.if-table-lt-PLACES.true) | else-table-lt-PLACES w ↦ omega (arith, w.end-is, w.if-table-lt-PLACES.false) ]
 
-pub invariant-of-result : goal.invariant-of-result
-invariant-of-result g c =
+pub invariant_of-result : goal.invariant_of-result
+invariant_of-result g c =
     let e = ends g c in
     spread _ c.args.table.now (sound_opened c.args.mark 0 c.if-table-lt-PLACES.end (length c.args.table.now) (replicate 64 (record { from = 0; to = 0 })) _ _ _ (omega arith) (omega arith) (omega arith) refl) (refl, e)
 

@@ -6,5 +6,5 @@ pub returns : goal.returns
 returns c =
     let lists = c.args.self.now in
     let short : length c.args.self.now.pairs.now < 2 ^ 64 = search rules in
-    let rest = c.split-at.ensures.back ∙ drop_capped (c.args.index * lists.places) c.min-from.result lists.pairs.now (omega (arith, c.min-from.ensures, c.saturating-mul.ensures)) in
-    c.split-at-2.ensures.front ∙ take_capped c.args.count _ _ c.min.ensures ∙ ap (take c.args.count) rest
+    let rest = c.split_at.ensures.back ∙ drop_capped (c.args.index * lists.places) c.min-from.result lists.pairs.now (omega (arith, c.min-from.ensures, c.saturating_mul.ensures)) in
+    c.split_at-2.ensures.front ∙ take_capped c.args.count _ _ c.min.ensures ∙ ap (take c.args.count) rest

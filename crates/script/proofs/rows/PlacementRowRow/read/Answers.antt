@@ -4,17 +4,17 @@ use Rattle.jobtext.proofs.Dues.{reads_fault}
 use Rattle.jobtext.proofs.Rows.{row_read, row_stop}
 use Rattle.script.proofs.rows.PlacementRowRow.read.Goals as goal
 
-pub returns-in-err-numbers : goal.returns-in-err-numbers
-returns-in-err-numbers c =
-    let told = c.in-err-numbers.ensures in
-    let p = err_from_is_err_and c.from-residual.result c.from-residual.ensures.1 in
+pub returns-in_err-numbers : goal.returns-in_err-numbers
+returns-in_err-numbers c =
+    let told = c.in_err-numbers.ensures in
+    let p = err_from_is_err_and c.from_residual.result c.from_residual.ensures.1 in
     record {
       section = told.section;
-      taken = IfOk-from_err _ _ c.from-residual.ensures.0;
+      taken = IfOk-from_err _ _ c.from_residual.ensures.0;
       reads = reads_fault _ _ _ _ _ p.1 p.2 (row_stop placement _ _ _ _ told.reads);
     }
 
 pub returns : goal.returns
 returns c =
-    let told = c.in-ok-numbers.ensures in
+    let told = c.in_ok-numbers.ensures in
     record { section = told.section; taken = told.taken; reads = row_read placement _ _ _ _ _ told.reads }

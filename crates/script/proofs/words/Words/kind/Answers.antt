@@ -4,12 +4,12 @@ use Rattle.jobtext.specs.Sections.{kind_of}
 use Rattle.jobtext.proofs.Dues.{reads_fault, headed_fault, headed_read}
 use Rattle.script.proofs.words.Words.kind.Goals as goal
 
-pub returns-in-err-open : goal.returns-in-err-open
-returns-in-err-open c =
-    let p = err_from_is_err_and c.from-residual.result c.from-residual.ensures.1 in
-    reads_fault _ _ _ _ _ p.1 p.2 (headed_fault kind_of _ _ _ c.in-err-open.ensures.reads)
+pub returns-in_err-open : goal.returns-in_err-open
+returns-in_err-open c =
+    let p = err_from_is_err_and c.from_residual.result c.from_residual.ensures.1 in
+    reads_fault _ _ _ _ _ p.1 p.2 (headed_fault kind_of _ _ _ c.in_err-open.ensures.reads)
 
 pub returns : goal.returns
 returns c =
-    let told = c.in-ok-open.ensures in
-    headed_read kind_of _ _ _ _ _ _ _ told.reads told.section (omega (arith, told.taken)) c.kind-word.ensures
+    let told = c.in_ok-open.ensures in
+    headed_read kind_of _ _ _ _ _ _ _ told.reads told.section (omega (arith, told.taken)) c.kind_word.ensures

@@ -6,13 +6,13 @@ use Rattle.jobtext.specs.Sections.{kind_of}
 use Rattle.jobtext.proofs.Dues.{due_missing, due_told}
 use Rattle.script.proofs.words.Words.kind_word.Goals as goal
 
-pub returns-in-err-word : goal.returns-in-err-word
-returns-in-err-word c =
-    let told = c.in-err-word.ensures in
-    let p = err_from_is_err_and c.from-residual.result c.from-residual.ensures.1 in
+pub returns-in_err-word : goal.returns-in_err-word
+returns-in_err-word c =
+    let told = c.in_err-word.ensures in
+    let p = err_from_is_err_and c.from_residual.result c.from_residual.ensures.1 in
     due_missing kind_of _ _ _ _ _ _ told.cases.0 (p.2 ∙ told.cases.1) p.1
 
 pub returns : goal.returns
 returns c =
-    let told = c.in-ok-word.ensures in
-    due_told kind_of _ _ _ _ _ _ _ _ told.cases.0 c.read-kind.ensures (c.flawed.ensures ∙ (λ i. found WrongWord (told.section i) (told.cases.1 i))) c.ok-or.ensures.value
+    let told = c.in_ok-word.ensures in
+    due_told kind_of _ _ _ _ _ _ _ _ told.cases.0 c.read_kind.ensures (c.flawed.ensures ∙ (λ i. found WrongWord (told.section i) (told.cases.1 i))) c.ok_or.ensures.value

@@ -13,8 +13,8 @@ pub loop-i-preserved : goal.loop-i-preserved
 loop-i-preserved g c =
     let i = c.loop-i.i in
     let row = c.loop-i.row in
-    let z = c.in-ok-row.field-0 in
-    let told = c.in-ok-row.ensures in
+    let z = c.in_ok-row.field-0 in
+    let told = c.in_ok-row.ensures in
     let inside : i < length row = omega (arith, c.loop-i.invariant.0) in
     let same : to_z w64 (of_z w64 z) ≡ z = search rules in
     let longer = take_more_set row i (to_z w64 (of_z w64 z)) inside ∙ ap (λ x. take i row ++ (x ∷ [])) same in
@@ -36,13 +36,13 @@ returns g c =
       reads = sym c.loop-i.invariant.3 ∙ numbers_done _ _ _ (take i row) (g.row.N - i) (omega arith) ∙ ap (λ zs. Ok (zs, words c.loop-i.self.rest.now)) all;
     }
 
-pub returns-in-err-row : goal.returns-in-err-row
-returns-in-err-row g c =
+pub returns-in_err-row : goal.returns-in_err-row
+returns-in_err-row g c =
     let i = c.loop-i.i in
-    let told = c.in-err-row.ensures in
-    let p = err_from_is_err_and c.from-residual.result c.from-residual.ensures.1 in
+    let told = c.in_err-row.ensures in
+    let p = err_from_is_err_and c.from_residual.result c.from_residual.ensures.1 in
     record {
       section = told.section ∙ c.loop-i.invariant.1;
-      taken = IfOk-from_err _ _ c.from-residual.ensures.0;
+      taken = IfOk-from_err _ _ c.from_residual.ensures.0;
       reads = reads_fault _ _ _ _ _ p.1 p.2 (sym c.loop-i.invariant.3 ∙ numbers_stop _ _ _ _ (g.row.N - i) (g.row.N - (i + 1)) _ (omega arith) told.reads);
     }

@@ -8,13 +8,13 @@ use Rattle.jobtext.specs.Sections.{opens, opening}
 use Rattle.jobtext.proofs.Dues.{due_missing, due_told}
 use Rattle.script.proofs.words.Words.open.Goals as goal
 
-pub returns-in-err-word : goal.returns-in-err-word
-returns-in-err-word c =
-    let told = c.in-err-word.ensures in
-    let p = err_from_is_err_and c.from-residual.result c.from-residual.ensures.1 in
+pub returns-in_err-word : goal.returns-in_err-word
+returns-in_err-word c =
+    let told = c.in_err-word.ensures in
+    let p = err_from_is_err_and c.from_residual.result c.from_residual.ensures.1 in
     record {
       section = told.section;
-      taken = IfOk-from_err _ _ c.from-residual.ensures.0;
+      taken = IfOk-from_err _ _ c.from_residual.ensures.0;
       reads = due_missing (opens c.args.section) _ _ _ _ _ _ told.cases.0 (p.2 ∙ told.cases.1) p.1;
     }
 
@@ -23,20 +23,20 @@ opened : {t : Bool} (w name : List ℕ) (s : Section) → t ≡ bytes_eq w name 
 unfolding opens
 opened w name s told same = ap (λ b. cond b (Some tt) None) (told ∙ ap (bytes_eq w) same)
 
-pub returns-then-is-text : goal.returns-then-is-text
-returns-then-is-text c =
-    let told = c.in-ok-word.ensures in
+pub returns-then-is_text : goal.returns-then-is_text
+returns-then-is_text c =
+    let told = c.in_ok-word.ensures in
     record {
       section = told.section;
       taken = told.cases.1;
-      reads = due_told (opens c.args.section) _ _ _ c.in-ok-word.word.now _ (Some tt) _ _ told.cases.0 (opened _ _ _ c.if-is-text.ensures c.opening-word.ensures) refl refl;
+      reads = due_told (opens c.args.section) _ _ _ c.in_ok-word.word.now _ (Some tt) _ _ told.cases.0 (opened _ _ _ c.if-is_text.ensures c.opening_word.ensures) refl refl;
     }
 
-pub returns-else-is-text : goal.returns-else-is-text
-returns-else-is-text c =
-    let told = c.in-ok-word.ensures in
+pub returns-else-is_text : goal.returns-else-is_text
+returns-else-is_text c =
+    let told = c.in_ok-word.ensures in
     record {
       section = told.section;
       taken = tt;
-      reads = due_told (opens c.args.section) _ _ _ c.in-ok-word.word.now _ None _ _ told.cases.0 (opened _ _ _ c.if-is-text.ensures c.opening-word.ensures) (c.flawed.ensures ∙ (λ i. found WrongWord (told.section i) (told.cases.1 i))) refl;
+      reads = due_told (opens c.args.section) _ _ _ c.in_ok-word.word.now _ None _ _ told.cases.0 (opened _ _ _ c.if-is_text.ensures c.opening_word.ensures) (c.flawed.ensures ∙ (λ i. found WrongWord (told.section i) (told.cases.1 i))) refl;
     }
