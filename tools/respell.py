@@ -5,7 +5,7 @@ usage: python3 tools/respell.py         at the top of the repository: rewrites c
        python3 tools/respell.py --list  prints each old name and its new one, and changes nothing
 
 Words are in snake case: a dash becomes an underscore, and a capital inside a word that begins small becomes an underscore and a small letter.
-What begins with a capital is a type, and its parts are joined in upper camel case. A name that a Rust function has gets the ending _lem.
+What begins with a capital is a type, and its parts are joined in upper camel case. A name that a Rust function or a field has gets the ending _lem.
 Names of src/, strings, comments, and the names that the check makes (goals, steps, loops) stay as they are.
 """
 import os
@@ -23,9 +23,11 @@ APART = {
 # Names of two crates that do not meet.
 ALIKE = {"kind_of"}
 
-# What has the name of a Rust function gets the ending _lem.
+# What has the name of a Rust function or of a field gets the ending _lem.
 AS_FUNCTIONS = {
     "axes-of",
+    "box-weights",
+    "many-weights",
     "ball-reach",
     "cornerAt",
     "due-at",

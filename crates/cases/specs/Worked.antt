@@ -7,7 +7,7 @@ use Rattle.hull.specs.declared.corner.Corner.{Corner}
 use Rattle.hull.specs.declared.direction.Direction.{Direction}
 use Rattle.hull.specs.Units.{corner_limit, direction_limit}
 use Rattle.hull.specs.Faces.{face}
-use Rattle.hull.specs.Weights.{weight, many_weights}
+use Rattle.hull.specs.Weights.{weight, many_weights_lem}
 use Rattle.hull.specs.Directions.{direction}
 use Rattle.support.specs.Supports.{kept, rounded}
 use Rattle.faced.specs.Hulls.{box_begun, box_grown, box_reach}
@@ -65,7 +65,7 @@ pub record Worked : Type 0 where
   -- d = 9 gives g = 3, and d = -9 gives -2
   pub products : (kept (pos 9) ≡ pos 3) × (kept (negsuc 8) ≡ negsuc 1)
   -- (5, -3, 1) has the weights 2, 2 and 1 on (1, 0, 0), (1, -1, 0) and (1, -1, 1)
-  pub weights : many_weights (pos 5) (negsuc 2) (pos 1) ≡ weight 2 (face (pos 1) (pos 0) (pos 0)) ∷ weight 2 (face (pos 1) (negsuc 0) (pos 0)) ∷ weight 1 (face (pos 1) (negsuc 0) (pos 1)) ∷ []
+  pub weights : many_weights_lem (pos 5) (negsuc 2) (pos 1) ≡ weight 2 (face (pos 1) (pos 0) (pos 0)) ∷ weight 2 (face (pos 1) (negsuc 0) (pos 0)) ∷ weight 1 (face (pos 1) (negsuc 0) (pos 1)) ∷ []
   -- with (3, 4, 0) the ball's radius is 5, and its reach along (0, 0, W) 20,480
   pub radius_5 : (ball_with (corner (pos 3) (pos 4) (pos 0) tt tt tt)).radius ≡ 5
   pub reach_20480 : ball_reach_lem (ball_with (corner (pos 3) (pos 4) (pos 0) tt tt tt)) upward ≡ pos 20480

@@ -3,7 +3,7 @@ ghost use Rattle.std.specs.Prelude.{◌≡◌};
 ghost use Rattle.support.specs.Exchange.{InAnyOrder};
 ghost use Rattle.faced.specs.Hulls.{box_begun, box_grown, box_reach, box_unrounded, BoxFits, many_begun, many_grown, many_reach, many_unrounded, ManyFits};
 ghost use Rattle.support.proofs.Tops.{supports_one, supports_more};
-ghost use Rattle.hull.specs.Weights.{box_weights, many_weights};
+ghost use Rattle.hull.specs.Weights.{box_weights_lem, many_weights_lem};
 ghost use Rattle.support.proofs.FacedLaws as laws;
 ghost use Rattle.support.proofs.Decompositions.{box_decomposes, many_decomposes};
 
@@ -40,11 +40,11 @@ impl Hull for BoxHull {
 
     ghost another = { λ h c p f. supports_more 6 h.supports c p f };
 
-    ghost covers = { λ h c u f. laws.covers u 6 (box_weights u.x u.y u.z) (box_decomposes u) h.supports c f };
+    ghost covers = { λ h c u f. laws.covers u 6 (box_weights_lem u.x u.y u.z) (box_decomposes u) h.supports c f };
 
-    ghost tight = { λ h c u s f d. laws.tight u 6 (box_weights u.x u.y u.z) (box_decomposes u) h.supports c s f d };
+    ghost tight = { λ h c u s f d. laws.tight u 6 (box_weights_lem u.x u.y u.z) (box_decomposes u) h.supports c s f d };
 
-    ghost rounds = { λ h c u t f. laws.rounds u 6 (box_weights u.x u.y u.z) (box_decomposes u) h.supports c f };
+    ghost rounds = { λ h c u t f. laws.rounds u 6 (box_weights_lem u.x u.y u.z) (box_decomposes u) h.supports c f };
 
     fn first(p: Corner) -> BoxHull {
         let mut supports = [i16::MIN; 6];
@@ -92,11 +92,11 @@ impl Hull for ManyHull {
 
     ghost another = { λ h c p f. supports_more 26 h.supports c p f };
 
-    ghost covers = { λ h c u f. laws.covers u 26 (many_weights u.x u.y u.z) (many_decomposes u) h.supports c f };
+    ghost covers = { λ h c u f. laws.covers u 26 (many_weights_lem u.x u.y u.z) (many_decomposes u) h.supports c f };
 
-    ghost tight = { λ h c u s f d. laws.tight u 26 (many_weights u.x u.y u.z) (many_decomposes u) h.supports c s f d };
+    ghost tight = { λ h c u s f d. laws.tight u 26 (many_weights_lem u.x u.y u.z) (many_decomposes u) h.supports c s f d };
 
-    ghost rounds = { λ h c u t f. laws.rounds u 26 (many_weights u.x u.y u.z) (many_decomposes u) h.supports c f };
+    ghost rounds = { λ h c u t f. laws.rounds u 26 (many_weights_lem u.x u.y u.z) (many_decomposes u) h.supports c f };
 
     fn first(p: Corner) -> ManyHull {
         let mut supports = [i16::MIN; 26];

@@ -7,7 +7,7 @@ use Rattle.std.specs.List.{AllByRecursion as All}
 use Rattle.hull.specs.declared.face.Face.{Face}
 use Rattle.hull.specs.declared.face.Weight.{Weight}
 use Rattle.hull.specs.Faces.{face, joined}
-use Rattle.hull.specs.Weights.{entry, insert, sorted, stacked, many_weights, Falls}
+use Rattle.hull.specs.Weights.{entry, insert, sorted, stacked, many_weights_lem, Falls}
 use Rattle.support.specs.Supports.{share, support, sum_of, reach_on}
 use Rattle.support.specs.Exchange.{orders, InAnyOrder}
 
@@ -184,7 +184,7 @@ free_orders g a b c =
       ),
     )
 
-pub in_any_order : (g : List ℤ) (x y z r : ℤ) → r ≡ reach_on (many_weights x y z) g → InAnyOrder g x y z r
+pub in_any_order : (g : List ℤ) (x y z r : ℤ) → r ≡ reach_on (many_weights_lem x y z) g → InAnyOrder g x y z r
 unfolding InAnyOrder
 in_any_order g x y z r e =
     subst (λ (k : ℤ). InAnyOrder g x y z k) (sym e)
