@@ -108,21 +108,42 @@ def together(renamed, own):
     return {b: sorted(a) for b, a in back.items() if len(a) > 1 and b not in ALIKE}
 
 
+OTHER = re.compile(r"(?m)^\s*(?:ghost )?use\s+([^\s;{]+?)(?:\.\{([^}]*)\})?(?:\s+as\s+([^\s;]+))?;?\s*$")
+
+
+def foreign(text, crates):
+    """The names that a file has from elsewhere, and its short names for modules of elsewhere."""
+    names, modules = set(), set()
+    for path, listed, short in OTHER.findall(text):
+        parts = path.split(".")
+        if parts[0] == "Rattle" and len(parts) > 1 and parts[1] in crates:
+            continue
+        names |= {n.strip().split(" as ")[-1].strip() for n in listed.split(",") if n.strip()}
+        if short:
+            modules.add(short)
+    return names, modules
+
+
 CHAIN = re.compile(r"(?<![\w'·\-])((?:" + WORD + r"\.)*)(" + WORD + r")")
 
 
-def respelled(line, renamed):
-    """A line of a clause, a definition or a proof in the new spelling. Of a step's path, as c.loop-i.invariant, the second part is made."""
+def respelled(line, renamed, modules, answers):
+    """A line of a clause, a definition or a proof in the new spelling. In answers the second part of a step's path, as c.loop-i.invariant, is made."""
 
     def turn(hit):
         parts = (hit.group(1) + hit.group(2)).split(".")
-        made = {1} if parts[0] in ("c", "w", "l", "a", "goal", "given") else set()
+        if parts[0] in modules:
+            return hit.group(0)
+        made = {1} if answers and parts[0] in ("c", "w", "l", "a", "goal", "given") else set()
         return ".".join(p if k in made else renamed.get(p, p) for k, p in enumerate(parts))
 
     return CHAIN.sub(turn, line)
 
 
-def turned(path, text, renamed):
+def turned(path, text, renamed, crates):
+    names, modules = foreign(text, crates)
+    renamed = {a: b for a, b in renamed.items() if a not in names}
+    answers = re.search(r"/proofs/.+/", path)
     out = []
     for line in text.split("\n"):
         code, mark, said = line, "", ""
@@ -135,7 +156,7 @@ def turned(path, text, renamed):
             if hit:
                 code, mark, said = line[: hit.start()], line[hit.start() : hit.end()], line[hit.end() :]
         parts = re.split(r'(b?"(?:[^"\\]|\\.)*")', code)
-        code = "".join(p if k % 2 else respelled(p, renamed) for k, p in enumerate(parts))
+        code = "".join(p if k % 2 else respelled(p, renamed, modules, answers) for k, p in enumerate(parts))
         said = re.sub(r"`(" + WORD + r")`", lambda m: "`" + renamed.get(m.group(1), m.group(1)) + "`", said)
         out.append(code + mark + said)
     return "\n".join(out)
@@ -155,10 +176,11 @@ def main():
         for b in sorted(alike):
             print("fall together:", b, "from", ", ".join(alike[b]))
         return 1
+    crates = set(os.listdir(os.path.join(top, "crates")))
     changed = 0
     for path in files(top):
         before = read(path)
-        after = turned(path, before, renamed)
+        after = turned(path, before, renamed, crates)
         if after != before:
             with open(path, "w", encoding="utf-8") as f:
                 f.write(after)

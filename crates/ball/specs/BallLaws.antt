@@ -84,14 +84,14 @@ length_under : (u : Direction) → length_up u ≤ size u
 length_under u = root_least (squared u.x u.y u.z) (size u) (squares (unsigned_abs u.x) (unsigned_abs u.y) (unsigned_abs u.z))
   where
     squares : (a b c : ℕ) → a * a + b * b + c * c ≤ (a + b + c) * (a + b + c)
-    squares a b c = simp (N.add_mul, N.mul_add) (omega arith)
+    squares a b c = simp (N.add-mul, N.mul-add) (omega arith)
 
 dot_small : (a b c d e f : ℤ) (s : ℕ) → unsigned_abs a ≤ s → unsigned_abs b ≤ s → unsigned_abs c ≤ s → unsigned_abs (a *ℤ d +ℤ b *ℤ e +ℤ c *ℤ f) ≤ s * (unsigned_abs d + unsigned_abs e + unsigned_abs f)
 dot_small a b c d e f s h k l =
     let x = small_mul a d s (unsigned_abs d) h (N.le_refl (unsigned_abs d)) in
     let y = small_mul b e s (unsigned_abs e) k (N.le_refl (unsigned_abs e)) in
     let z = small_mul c f s (unsigned_abs f) l (N.le_refl (unsigned_abs f)) in
-    simp N.mul_add (omega (arith, ints))
+    simp N.mul-add (omega (arith, ints))
 
 -- ---- along u, from the corner z to the corner v
 module _ (u : Direction) (z v : Corner) where
@@ -118,7 +118,7 @@ over t a b d n h e k = omega (arith, ints)
 
 under : (t a b d : ℤ) (r q s n : ℕ) → t ≤ℤ (a +ℤ pos (r * q) +ℤ pos 255) → b ≡ a +ℤ d → unsigned_abs d ≤ s * n → r ≤ 2 * s → q ≤ n → t ≤ℤ (b +ℤ pos (3 * (n * (s + 8)) + slack))
 under t a b d r q s n h e k f g =
-    omega (arith, ints, N.mul-le-mul f g, N.mul_assoc 2 s n, N.mul_comm s n, N.mul_add n s 8)
+    omega (arith, ints, N.mul-le-mul f g, N.mul_assoc 2 s n, N.mul_comm s n, N.mul-add n s 8)
 
 -- u·z + r × q
 abbrev reach_sum : BallHull → Direction → ℤ

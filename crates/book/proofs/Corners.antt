@@ -1,6 +1,6 @@
 -- Corners and the numbers that they are made of.
 use Rattle.std.proofs.Common.{◌≡◌, ℕ, ◌≤◌, Bool, true, false, cond, ◌&&◌, leb, ℤ, nat_abs, sym, refl, ap, ◌∙◌, subst, ⊎_elim}
-use Rattle.std.proofs.lemmas.Bool.{cases_Bool, and_from, and_left, and_right, and_parts, le-leb, leb_true, cond-true}
+use Rattle.std.proofs.lemmas.Bool.{cases_Bool, and_from, and_left, and_right, and_parts, le-leb, leb-true, cond-true}
 use Rattle.hull.specs.Units.{corner_limit, Within}
 use Rattle.hull.specs.declared.corner.Corner.{Corner}
 use Rattle.hull.proofs.Same.{same_made}
@@ -39,6 +39,6 @@ out_of_range x y z not = ⊎_elim
     (λ (e : fits_corner x y z ≡ true).
     let q = and_parts (fits x) (fits y && fits z) e in
     let r = and_parts (fits y) (fits z) q.1 in
-    absurd (not (record { in_x = leb_true _ _ q.0; in_y = leb_true _ _ r.0; in_z = leb_true _ _ r.1 })))
+    absurd (not (record { in_x = leb-true _ _ q.0; in_y = leb-true _ _ r.0; in_z = leb-true _ _ r.1 })))
     (λ e. e)
     (cases_Bool (fits_corner x y z))

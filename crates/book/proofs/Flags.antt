@@ -162,7 +162,7 @@ module _ (p : List Item) (x y : ℕ) (good : sane p ≡ true) (ok : allowed p (i
       (λ (q : k < length p). bound_at p x y both k d q ∙ sym (get_or_append_left s (false ∷ []) d k (omega arith)))
       (λ (q : length p ≤ k).
       let z : k ≡ length p = omega arith in
-      tied_push p (item.Tie x y) k ∙ (or_from _ _ (none_past p good k q) (or_from _ _ (ne_eqb x k (λ (e : x ≡ k). omega (arith, w.x-in))) (ne_eqb y k (λ (e : y ≡ k). omega (arith, w.y-in)))) ∙ sym (get_or_push s false d k (omega arith))))
+      tied_push p (item.Tie x y) k ∙ (or_from _ _ (none_past p good k q) (or_from _ _ (ne_eqb x k (λ (e : x ≡ k). omega (arith, w.x_in))) (ne_eqb y k (λ (e : y ≡ k). omega (arith, w.y_in)))) ∙ sym (get_or_push s false d k (omega arith))))
       (cases_lt k (length p)))
 
   untied_tie : untied (p ++ item.Tie x y ∷ []) + 1 ≡ untied p

@@ -2,7 +2,7 @@
 use Rattle.std.proofs.Common.{◌≡◌, ℕ, zero, suc, ◌+◌, ◌-◌, ◌<◌, ◌≤◌, max, Bool, true, false, cond, not, ◌&&◌, ◌||◌, eqb, ltb, leb, ◌⊎◌, List, [], ◌∷◌, ◌++◌, map, length, get_or, take, drop, fold, sym, refl, ap, ◌∙◌, subst, inl, inr, ⊎_elim, zero-le, arith}
 use Rattle.std.proofs.lemmas.List.{length_push, length-take-le, length-map, map_push, get_or_append_left, get_or_push, get_or-take, take-append-drop, drop_more, append_assoc, append-nil}
 use Rattle.std.proofs.lemmas.List.Sums.{fold_push}
-use Rattle.std.proofs.lemmas.Bool.{and_parts, and_from, or_cases, or_left, or_right, ltb-true, leb_true, eqb-true, eqb-false, not_true, not_from_false, lt-ltb, ne_eqb, both_ways, cases_Bool, cases_order, true≢false, false≢true}
+use Rattle.std.proofs.lemmas.Bool.{and_parts, and_from, or_cases, or_left, or_right, ltb-true, leb-true, eqb-true, eqb-false, not-true, not_from_false, lt-ltb, ne_eqb, both_ways, cases_Bool, cases_order, true≢false, false≢true}
 use Rattle.book.specs.declared.item.Facet.{Facet}
 use Rattle.book.specs.declared.item.Item.{Item}
 use Rattle.book.specs.declared.item.Item.TheVariants as item
@@ -89,7 +89,7 @@ module _ (p : List Item) (x : ℕ) where
 
   pub free_parts_lem : free p x ≡ true → (x < length p) × (tied p x ≡ false)
   unfolding free
-  free_parts_lem f = let q = and_parts (ltb x (length p)) (not (tied p x)) f in (ltb-true x _ q.0, not_true _ q.1)
+  free_parts_lem f = let q = and_parts (ltb x (length p)) (not (tied p x)) f in (ltb-true x _ q.0, not-true _ q.1)
 
 pub record Joins (p : List Item) (x y : ℕ) : Type 0 where
   pub differ : x ≡ y → ⊥
@@ -110,11 +110,11 @@ module _ (p : List Item) (x y : ℕ) where
       let r = and_parts (free p x) (free p y) q.1 in
       let s = free_parts_lem p x r.0 in
       let t = free_parts_lem p y r.1 in
-      record { differ = eqb-false x y (not_true _ q.0); x_in = s.0; y_in = t.0; x_free = s.1; y_free = t.1 }
+      record { differ = eqb-false x y (not-true _ q.0); x_in = s.0; y_in = t.0; x_free = s.1; y_free = t.1 }
 
   pub tie_allowed : allowed p (item.Tie x y) ≡ true → Joins p x y × (tie_height_lem p x y ≤ height_limit)
   unfolding low
-  tie_allowed a = let q = and_parts (joinable p x y) (low p x y) a in (joins_parts q.0, leb_true _ height_limit q.1)
+  tie_allowed a = let q = and_parts (joinable p x y) (low p x y) a in (joins_parts q.0, leb-true _ height_limit q.1)
 
 -- an item that may come has a height within the limit
 pub height_allowed : (p : List Item) (e : Item) → allowed p e ≡ true → height (tree_of (trees p) e) ≤ height_limit

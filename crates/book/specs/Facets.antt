@@ -1,7 +1,7 @@
 -- A facet from nine numbers.
 use Rattle.std.specs.Prelude.{◌≡◌, ℕ, ◌+◌, ◌≤◌, Bool, true, false, cond, ◌&&◌, List, [], ◌∷◌, ℤ, pos, nat_le, slice_index_or, unsigned_abs, refl}
 use Rattle.std.proofs.Common.{subst, sym, zero-le, lit≤}
-use Rattle.std.proofs.lemmas.Bool.{cond_both, leb_true}
+use Rattle.std.proofs.lemmas.Bool.{cond_both, leb-true}
 use Rattle.hull.specs.Units.{corner_limit}
 use Rattle.hull.specs.declared.corner.Corner.{Corner}
 use Rattle.book.specs.declared.item.Facet.{Facet}
@@ -32,7 +32,7 @@ entry n = cond (fits n) n (pos 0)
 
 pub entry_fits : (n : ℤ) → unsigned_abs (entry n) ≤ corner_limit
 unfolding entry
-entry_fits n = cond_both (fits n) n (pos 0) (λ (m : ℤ). unsigned_abs m ≤ corner_limit) (λ e. leb_true (unsigned_abs n) corner_limit e) (λ e. zero-le)
+entry_fits n = cond_both (fits n) n (pos 0) (λ (m : ℤ). unsigned_abs m ≤ corner_limit) (λ e. leb-true (unsigned_abs n) corner_limit e) (λ e. zero-le)
 
 -- the corner with these entries
 unfoldable pub corner : ℤ → ℤ → ℤ → Corner

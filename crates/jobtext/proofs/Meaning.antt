@@ -1,5 +1,5 @@
 -- A job that is spelled is read as it is meant.
-use Rattle.std.proofs.Common.{◌≡◌, ℕ, suc, ◌+◌, ◌*◌, List, [], ◌∷◌, ◌++◌, map, length, ℤ, Some, None, Ok, Option, sym, refl, ap, ◌∙◌, subst, append_assoc, append-nil, add_mul, arith}
+use Rattle.std.proofs.Common.{◌≡◌, ℕ, suc, ◌+◌, ◌*◌, List, [], ◌∷◌, ◌++◌, map, length, ℤ, Some, None, Ok, Option, sym, refl, ap, ◌∙◌, subst, append_assoc, append-nil, add-mul, arith}
 use Rattle.std.specs.List.{flat_map}
 use Rattle.std.specs.Result.{result_err}
 use Rattle.std.proofs.lemmas.Slice.Eq.{bytes_eq-Decides}
@@ -109,7 +109,7 @@ rows_ask f s k (r ∷ rs) = ap (λ (l : List Request). f.request r ∷ l) (rows_
 rows_blame : (f : Form) (s : Section) (k i : ℕ) (rs : List (List ℤ)) → k ≡ 2 + i * f.width → blames_of (row_entries f s k rs) ≡ row_blames f s i rs
 rows_blame f s k i [] e = refl
 rows_blame f s k i (r ∷ rs) e =
-    let here : k + f.width ≡ 2 + (i + 1) * f.width = omega (arith, add_mul i 1 f.width) in
+    let here : k + f.width ≡ 2 + (i + 1) * f.width = omega (arith, add-mul i 1 f.width) in
     λ j. record { section = s; word = here j } ∷ rows_blame f s (k + f.width) (i + 1) rs here j
 
 -- the entries of an object

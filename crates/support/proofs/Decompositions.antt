@@ -154,7 +154,7 @@ stacked_lengths w (x ∷ ws) h =
     add : (a b k l m s t : ℕ) → b ≤ a → m ≤ k + l → s ≤ b * m + t → (a - b) * k + s ≤ a * k + (b * l + t)
     add a b k l m s t f g h =
         let e : a - b + b ≡ a = omega arith in
-        omega (arith, NatL.mul-le-mul_left b g, NatL.mul_add b k l, NatL.add_mul (a - b) b k, ap (λ (n : ℕ). n * k) e)
+        omega (arith, NatL.mul-le-mul_left b g, NatL.mul-add b k l, NatL.add-mul (a - b) b k, ap (λ (n : ℕ). n * k) e)
 
 -- ---- sorted weights
 all_insert : (P : Weight → Type 0) (w : Weight) (ws : List Weight) → P w → All P ws → All P (insert w ws)

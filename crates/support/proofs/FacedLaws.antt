@@ -49,7 +49,7 @@ total_excess (w ∷ ws) = omega (arith, total_excess ws)
 total_spread : (s : ℕ) (ws : List Weight) → total (λ (w : Weight). w.amount * (rank w.on * s)) ws ≡ total (λ (w : Weight). w.amount * rank w.on) ws * s
 total_spread s [] = omega (arith, NatL.zero-mul s)
 total_spread s (w ∷ ws) =
-    omega (arith, total_spread s ws, NatL.mul_assoc w.amount (rank w.on) s, NatL.add_mul (w.amount * rank w.on) (total (λ (w : Weight). w.amount * rank w.on) ws) s)
+    omega (arith, total_spread s ws, NatL.mul_assoc w.amount (rank w.on) s, NatL.add-mul (w.amount * rank w.on) (total (λ (w : Weight). w.amount * rank w.on) ws) s)
 
 module _ (u : Direction) (n : ℕ) (ws : List Weight) (d : Decomposes u n ws) (g : List ℤ) (p : Corner) (c : List Corner) (h : Supports n g (p ∷ c)) where
   -- what is kept for a face of the direction
@@ -131,7 +131,7 @@ module _ (u : Direction) (n : ℕ) (ws : List Weight) (d : Decomposes u n ws) (g
       (λ v k. chain (pos reach_unit *ℤ reach_on ws g) (unrounded_on ws (p ∷ c)) (along u v) (size u * s) under (near s v k) refl) (p ∷ c) l
     where
       chain : (a b z : ℤ) (m : ℕ) → a ≤ℤ (b +ℤ pos (3 * size u + rounding)) → b ≤ℤ (z +ℤ pos m) → m ≡ size u * s → a ≤ℤ (z +ℤ pos (3 * (size u * (s + 8)) + slack))
-      chain a b z m f g q = omega (arith, ints, NatL.mul_add (size u) s 8)
+      chain a b z m f g q = omega (arith, ints, NatL.mul-add (size u) s 8)
 
 -- no support values are those of the empty list
 module _ (u : Direction) (n : ℕ) (ws : List Weight) (d : Decomposes u n ws) (g : List ℤ) where

@@ -101,7 +101,7 @@ near_product f s v w h =
     back a b h = omega (arith, ints)
 
     rows : (a b d : ℕ) → a * s + b * s + d * s ≡ (a + b + d) * s
-    rows a b d = omega (arith, NatL.add_mul (a + b) d s, NatL.add_mul a b s)
+    rows a b d = omega (arith, NatL.add-mul (a + b) d s, NatL.add-mul a b s)
 
     add3 : (a b d x y z : ℤ) (l m n k : ℕ) → a ≤ℤ (x +ℤ pos l) → b ≤ℤ (y +ℤ pos m) → d ≤ℤ (z +ℤ pos n) → l + m + n ≡ k → (a +ℤ b +ℤ d) ≤ℤ (x +ℤ y +ℤ z +ℤ pos k)
     add3 a b d x y z l m n k f g h e = omega (arith, ints)

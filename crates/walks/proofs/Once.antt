@@ -25,7 +25,7 @@ module _ (Parted : Tree → Tree → Type 0) where
   other_standing f w v p a b =
       let l = listed_facets Parted w a in
       let r = listed_facets Parted v b in
-      f p.1 l.standing r.standing l.in-standing r.in_standing
+      f p.1 l.standing r.standing l.in_standing r.in_standing
 
   pub walk_once : {t u : Tree} {ps : List (ℕ × ℕ)} {k : ℕ} → Walk Parted t u ps k → Separate t → Separate u → Once ps
   walk_once (apart h) a b = tt

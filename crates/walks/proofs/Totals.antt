@@ -43,11 +43,11 @@ module _ {Parted : Tree → Tree → Type 0} where
       one a b h k = omega (arith, N.mul-le-mul h k)
   tests_few (facets h) = omega arith
   tests_few (tie_facet {x} {y} h a b) = let i = tests_few a in let j = tests_few b in omega (arith, N.mul-one (items x), N.mul-one (items y), N.mul-one (1 + (items x + items y)))
-  tests_few (facet_tie {x} {y} h a b) = let i = tests_few a in let j = tests_few b in omega (arith, N.one_mul (items x), N.one_mul (items y), N.one_mul (1 + (items x + items y)))
+  tests_few (facet_tie {x} {y} h a b) = let i = tests_few a in let j = tests_few b in omega (arith, N.one-mul (items x), N.one-mul (items y), N.one-mul (1 + (items x + items y)))
   tests_few (ties {x} {y} {x'} {y'} h a b c d) =
       let i = tests_few a in
       let j = tests_few b in
       let k = tests_few c in
       let l = tests_few d in
-      let e : (1 + (items x + items y)) * (1 + (items x' + items y')) ≡ 1 + (items x + items y) + (items x' + items y') + (items x * items x' + items x * items y' + items y * items x' + items y * items y') = simp (N.add_mul, N.mul_add) (omega arith) in
+      let e : (1 + (items x + items y)) * (1 + (items x' + items y')) ≡ 1 + (items x + items y) + (items x' + items y') + (items x * items x' + items x * items y' + items y * items x' + items y * items y') = simp (N.add-mul, N.mul-add) (omega arith) in
       omega arith

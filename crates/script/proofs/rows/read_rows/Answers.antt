@@ -1,4 +1,4 @@
-use Rattle.std.proofs.Common.{◌≡◌, ◌+◌, ◌-◌, ◌*◌, [], ◌∷◌, ◌++◌, sym, refl, ap, ◌∙◌, add_mul, arith}
+use Rattle.std.proofs.Common.{◌≡◌, ◌+◌, ◌-◌, ◌*◌, [], ◌∷◌, ◌++◌, sym, refl, ap, ◌∙◌, add-mul, arith}
 use Rattle.std.proofs.lemmas.Result.{err_from_is_err_and, IfOk-from_err}
 use Rattle.jobtext.specs.Readings.{before, rows}
 use Rattle.jobtext.specs.Words.{words}
@@ -24,7 +24,7 @@ loop-row-preserved g c =
       inv.0 ++ (record { request = q; blame = c.place.result } ∷ []),
       grown_more _ _ _ _ _ inv.1 c.in_ok-put.ensures,
       told.section ∙ inv.2,
-      omega (arith, told.taken, inv.3, add_mul i 1 f.width),
+      omega (arith, told.taken, inv.3, add-mul i 1 f.width),
       (λ j. before (inv.0 ++ (record { request = q; blame = at j } ∷ [])) (rows f (c.args.count - (i + 1)) (told.section j) (told.taken j) left)) ∙ sym step ∙ inv.4,
     )
 
