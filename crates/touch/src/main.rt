@@ -1,9 +1,18 @@
-// Reads a job and prints its report: the facet pairs that may touch.
+// Reads a job and reports the facet pairs that may touch.
 #![tactic(auto)]
 
+mod facet;
+mod fault;
+mod job;
+mod number;
+mod section;
+mod stop;
+#[cfg(test)]
+mod tests;
+mod words;
+
 use anyhow::anyhow;
-use job::report;
-use script::MOST_BYTES;
+use job::{MOST_BYTES, answer};
 use std::alloc::Global;
 use std::fs::File;
 use std::io::Read;
@@ -29,8 +38,8 @@ fn read_input(rt: &HostRuntime) -> anyhow::Result<Vec<u8>> {
 
 fn run(rt: &HostRuntime) -> anyhow::Result<()> {
     let bytes = read_input(rt)?;
-    let text = report(rt.alloc(), bytes.as_slice())?;
-    rt.print(text.as_str())?;
+    let report = answer(rt.alloc(), bytes.as_slice())?;
+    rt.print(report.as_str())?;
     Ok(())
 }
 

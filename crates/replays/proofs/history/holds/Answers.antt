@@ -1,6 +1,6 @@
 use Rattle.std.proofs.Common.{◌≡◌, ℕ, Bool, true, false, not, Decides, MatchBool, sym, refl, ◌∙◌, below_more}
 use Rattle.std.proofs.lemmas.Bool.{false≢true}
-use Rattle.histories.proofs.history.holds.Goals as goal
+use Rattle.replays.proofs.history.holds.Goals as goal
 
 -- pairs are equal where neither of their parts was found to differ
 same : (p q : ℕ × ℕ) (differ x y : Bool) → Decides y (p.0 ≡ q.0) → MatchBool y (Decides x (p.1 ≡ q.1)) (x ≡ false) → differ ≡ not x → differ ≡ false → p ≡ q

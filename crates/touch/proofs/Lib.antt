@@ -1,0 +1,4 @@
+mod Cuts
+mod Nine
+mod Numerals
+mod Rows

@@ -1,0 +1,17 @@
+-- A facet and its nine numbers.
+use Rattle.std.specs.Prelude.{◌≤◌, List, [], ◌∷◌, ℤ, unsigned_abs}
+use Rattle.std.specs.List.{AllByRecursion as All}
+use Rattle.hull.specs.declared.corner.Corner.{Corner}
+use Rattle.hull.specs.Units.{corner_limit}
+use Rattle.touch.specs.declared.facet.Facet.{Facet}
+
+abbrev pub corners : Facet → List Corner
+corners f = f.a ∷ f.b ∷ f.c ∷ []
+
+-- the numbers of a facet, in their order
+abbrev pub entries : Facet → List ℤ
+entries f = f.a.x ∷ f.a.y ∷ f.a.z ∷ f.b.x ∷ f.b.y ∷ f.b.z ∷ f.c.x ∷ f.c.y ∷ f.c.z ∷ []
+
+-- the numbers of a list are in the range of a corner's
+unfoldable pub InRange : List ℤ → Type 0
+InRange n = All (λ z. unsigned_abs z ≤ corner_limit) n
