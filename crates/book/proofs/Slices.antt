@@ -3,8 +3,9 @@ use Rattle.std.proofs.Common.{◌≡◌, ℕ, suc, ◌+◌, ◌-◌, ◌<◌, �
 use lib.Seq.{take-set-lt}
 use Rattle.std.proofs.lemmas.List.{drop-set-add, take_more_set, take-set-le, length-drop, length-take, length-set, length-map, take-map, drop-map, get_or-take, get_or-map, map_push}
 use Rattle.std.proofs.lemmas.Bool.{cases_lt}
+use Rattle.book.specs.declared.item.Item.{Item}
 use Rattle.book.specs.declared.ledger.Span.{Span}
-use Rattle.book.specs.Ledgers.{slice, objects}
+use Rattle.book.specs.Ledgers.{slice, objects, objects_over}
 
 module _ {X : Type 0} (xs : List X) (b u : ℕ) where
   pub slice_push : (x : X) → b ≤ u → u < length xs → slice b (u + 1) (set xs u x) ≡ slice b u xs ++ x ∷ []
@@ -55,8 +56,8 @@ map_same f g (x ∷ xs) h =
     cc
 
 -- objects stay where a write comes after them, and one more is filed at the end
-module _ {X : Type 0} (closed : ℕ) (spans : List Span) (all : List X) where
-  pub objects_kept : (base i : ℕ) (e : X) → ((k : ℕ) (d : Span) → k < closed → (get_or spans k d).to ≤ base) → base ≤ i → objects closed spans (set all i e) ≡ objects closed spans all
+module _ (closed : ℕ) (spans : List Span) (all : List Item) where
+  pub objects_kept : (base i : ℕ) (e : Item) → ((k : ℕ) (d : Span) → k < closed → (get_or spans k d).to ≤ base) → base ≤ i → objects closed spans (set all i e) ≡ objects closed spans all
   unfolding objects
   objects_kept base i e apart l = map_same _ _ (take closed spans) (λ k d h.
       let lt : k < closed = omega (arith, length-take closed spans) in
@@ -71,8 +72,13 @@ module _ {X : Type 0} (closed : ℕ) (spans : List Span) (all : List X) where
   unfolding objects
   length_objects h = length-map (take closed spans) _ ∙ (length-take closed spans ∙ omega arith)
 
-  pub object_at : (k : ℕ) (d : Span) (e : List X) → k < closed → closed ≤ length spans → get_or (objects closed spans all) k e ≡ slice (get_or spans k d).from (get_or spans k d).to all
-  unfolding objects
-  object_at k d e h l =
-      get_or-map (λ (s : Span). slice s.from s.to all) (take closed spans) k d e (omega (arith, length-take closed spans))
-      ∙ ap (λ (s : Span). slice s.from s.to all) (get_or-take closed spans k d h)
+-- one object's own
+pub object_over_at : {X : Type 0} (closed : ℕ) (spans : List Span) (all : List X) (k : ℕ) (d : Span) (e : List X) → k < closed → closed ≤ length spans → get_or (objects_over closed spans all) k e ≡ slice (get_or spans k d).from (get_or spans k d).to all
+unfolding objects_over
+object_over_at closed spans all k d e h l =
+    get_or-map (λ (s : Span). slice s.from s.to all) (take closed spans) k d e (omega (arith, length-take closed spans))
+    ∙ ap (λ (s : Span). slice s.from s.to all) (get_or-take closed spans k d h)
+
+pub object_at : (closed : ℕ) (spans : List Span) (all : List Item) (k : ℕ) (d : Span) (e : List Item) → k < closed → closed ≤ length spans → get_or (objects closed spans all) k e ≡ slice (get_or spans k d).from (get_or spans k d).to all
+unfolding objects objects_over
+object_at closed spans all k d e h l = object_over_at closed spans all k d e h l

@@ -16,9 +16,13 @@ slice from to xs = slice_range xs from to
 abbrev pub drafted : {X : Type 0} → Ledger → List X → List X
 drafted l xs = slice l.base l.used xs
 
+-- the items of each object
+unfoldable pub objects : ℕ → List Span → List Item → List (List Item)
+objects closed spans items = map (λ (s : Span). slice s.from s.to items) (take closed spans)
+
 -- what stands at the places of each object
-unfoldable pub objects : {X : Type 0} → ℕ → List Span → List X → List (List X)
-objects closed spans xs = map (λ (s : Span). slice s.from s.to xs) (take closed spans)
+unfoldable pub objects_over : {X : Type 0} → ℕ → List Span → List X → List (List X)
+objects_over closed spans xs = map (λ (s : Span). slice s.from s.to xs) (take closed spans)
 
 -- the book
 unfoldable pub book_over : Ledger → List Item → Book

@@ -7,7 +7,7 @@ ghost use Rattle.job.specs.Prints.{comparisons_in, job_items, pair_places, Print
 use book::{Answer, Item, Request};
 use hull::{Corner, Hull};
 use jobtext::Fault;
-use register::{Place, replay};
+use register::{Place, replay_requests};
 use report::{Lists, render};
 use script::Entries;
 use std::alloc::{AllocError, Global};
@@ -82,7 +82,7 @@ pub(crate) fn run<H: Hull + Clone>(
     let mut table = blank_table::<H>(heap)?;
     let mut answers = blank_answers(heap, requests.len())?;
     let mut lists = blank_lists(heap, count_comparisons(requests))?;
-    replay(
+    replay_requests(
         MARK,
         table.as_mut_slice(),
         requests,

@@ -19,7 +19,7 @@ use Rattle.book.proofs.Answering.{goes, stays, start_1, start_2, start_yes, face
 use Rattle.register.specs.declared.draft.Draft.{Draft}
 use Rattle.register.specs.declared.register.Register.{Register}
 use Rattle.register.specs.Tables.{FacetStands}
-use Rattle.register.specs.Registers.{book_of, entered, Filled, lone_questions, FiledAlone}
+use Rattle.register.specs.Registers.{book_of, entered, FilledBy, lone_questions, FiledAlone}
 
 -- a call has one answer, and leaves one book
 same : {b : Book} {c : Call} {a a' : Answer} {x x' : Book} → Said b c a x → Said b c a' x' → (a ≡ a') × (x ≡ x')
@@ -148,7 +148,7 @@ module _ (b : Book) (n : List ℤ) where
           not_closed w b3 d = let e = closing d in never (cc)
 
 -- the table, through the calls
-module _ {H : Type 0} (r0 r1 r2 r3 : Register H) (t1 : r1.table.now ≡ r0.table.now) (t3 : r3.table.now ≡ r2.table.now) (begin : Corner → H) (grow : H → Corner → H) (e : Facet) (r : Result ℕ Refusal) (w : Filled (FacetStands begin grow e) r1 r2 r) where
+module _ {H : Type 0} (r0 r1 r2 r3 : Register H) (t1 : r1.table.now ≡ r0.table.now) (t3 : r3.table.now ≡ r2.table.now) (begin : Corner → H) (grow : H → Corner → H) (e : Facet) (r : Result ℕ Refusal) (w : FilledBy (FacetStands begin grow e) r1 r2 r) where
   pub table_kept : (why : Refusal) → r ≡ Err why → r3.table.now ≡ r0.table.now
   table_kept why is = let v : r2.table.now ≡ r1.table.now = rw is at w in cc
 

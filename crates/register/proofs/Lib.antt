@@ -10,3 +10,4 @@ pub mod Shelf
 pub mod Comparing
 pub mod Stretching
 pub mod Alone
+pub mod Runs

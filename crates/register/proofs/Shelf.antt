@@ -8,7 +8,7 @@ use Rattle.book.specs.Books.{closed, object, counts}
 use Rattle.book.specs.Pages.{complete}
 use Rattle.book.specs.Ledgers.{slice, objects, book_over}
 use Rattle.book.specs.Hulls.{GrownPage}
-use Rattle.book.proofs.Slices.{object_at, length_slice, slice_short}
+use Rattle.book.proofs.Slices.{object_at, object_over_at, length_slice, slice_short}
 use Rattle.book.proofs.LedgerLaws.{count_objects}
 use Rattle.book.proofs.Wholes.{all_complete_at, some_item}
 use Rattle.register.specs.declared.place.Place.{Place}
@@ -39,7 +39,7 @@ module _ {H : Type 0} (r : Register H) where
 
     pub places_at : (d : Span) → places_of r (pos k) ≡ slice (span_of d).from (span_of d).to (table_of r)
     unfolding places_of
-    places_at d = object_at r.ledger.closed r.ledger.spans (table_of r) k d [] l (omega (arith, r.counted.0, r.counted.1))
+    places_at d = object_over_at r.ledger.closed r.ledger.spans (table_of r) k d [] l (omega (arith, r.counted.0, r.counted.1))
 
     items_at : (d : Span) → object (book_of r) (pos k) ≡ slice (span_of d).from (span_of d).to (items_of (table_of r))
     unfolding book_of book_over

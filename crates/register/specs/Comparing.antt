@@ -6,7 +6,7 @@ use Rattle.book.specs.declared.call.Answer.{Answer}
 use Rattle.book.specs.declared.call.Answer.TheVariants as answer
 use Rattle.book.specs.declared.call.Comparison.{Comparison}
 use Rattle.book.specs.declared.refusal.Refusal.{Refusal}
-use Rattle.book.specs.Ledgers.{objects}
+use Rattle.book.specs.Ledgers.{objects_over}
 use Rattle.walks.specs.Walks.{Walk}
 use Rattle.walks.specs.Comparisons.{root}
 use Rattle.walks.specs.Stored.{PartedStored}
@@ -16,7 +16,7 @@ use Rattle.register.specs.Tables.{items_of, hulls_of}
 
 -- the places of the object with this number
 unfoldable pub places_of : {H : Type 0} → Register H → ℤ → List (Place H)
-places_of r n = slice_index_or (objects r.ledger.closed r.ledger.spans r.table.now) (unsigned_abs n) []
+places_of r n = slice_index_or (objects_over r.ledger.closed r.ledger.spans r.table.now) (unsigned_abs n) []
 
 -- the walk from the last places of two objects, over the stored hulls
 abbrev pub WalkStored : {H : Type 0} → (H → Direction → ℤ) → List (Place H) → List (Place H) → Placement → List (ℕ × ℕ) → ℕ → Type 0

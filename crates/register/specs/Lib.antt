@@ -1,3 +1,4 @@
 pub mod Tables
 pub mod Registers
 pub mod Comparing
+pub mod Runs

@@ -1,6 +1,7 @@
 -- The book of a register, and what its calls answer.
-use Rattle.std.specs.Prelude.{◌≡◌, ℕ, ◌+◌, ◌-◌, ◌<◌, Bool, true, false, List, [], ◌∷◌, ◌++◌, length, ℤ, Some, None, Ok, Err, Result}
+use Rattle.std.specs.Prelude.{◌≡◌, ℕ, ◌+◌, ◌-◌, ◌<◌, Bool, true, false, List, [], ◌∷◌, ◌++◌, length, ℤ, Some, None, Ok, Err, Result, unsigned_abs}
 use Rattle.hull.specs.declared.corner.Corner.{Corner}
+use Rattle.book.specs.declared.item.Item.{Item}
 use Rattle.book.specs.declared.item.Item.TheVariants as item
 use Rattle.book.specs.declared.refusal.Refusal.{Refusal}
 use Rattle.book.specs.declared.refusal.Refusal.TheVariants as refusal
@@ -8,7 +9,7 @@ use Rattle.book.specs.declared.call.Call.TheVariants as call
 use Rattle.book.specs.declared.call.Answer.{Answer}
 use Rattle.book.specs.declared.call.Answer.TheVariants as answer
 use Rattle.book.specs.Facets.{within, facet_of}
-use Rattle.book.specs.Books.{Book, room, tie_height_lem, questions, first_no, turned, shelved}
+use Rattle.book.specs.Books.{Book, room, stored, tie_height_lem, questions, first_no, turned, shelved}
 use Rattle.book.specs.Pages.{allowed}
 use Rattle.book.specs.Ledgers.{drafted, book_over, repaged}
 use Rattle.book.specs.declared.ledger.Ledger.{Ledger}
@@ -18,7 +19,7 @@ use Rattle.register.specs.declared.draft.Draft.{Draft}
 use Rattle.register.specs.declared.draft.Unclosed.{Unclosed}
 use Rattle.register.specs.declared.draft.Unclosed.TheVariants as unclosed
 use Rattle.register.specs.declared.register.Register.{Register}
-use Rattle.register.specs.Tables.{items_of, hulls_of}
+use Rattle.register.specs.Tables.{items_of, hulls_of, Wrote}
 
 -- the book that the register keeps
 unfoldable pub book_of : {H : Type 0} → Register H → Book
@@ -65,10 +66,19 @@ abbrev pub BackFromDrop : Draft → Result ℕ (Draft × Refusal) → Type 0
 BackFromDrop draft (Ok n) = Unit {0}
 BackFromDrop draft (Err e) = e.0 ≡ draft
 
+-- an entered item stands at the first free place, and a refusal writes nothing
+abbrev pub Filled : {H : Type 0} → Register H → Register H → Item → Result ℕ Refusal → Type 0
+Filled before after e (Ok n) = Wrote before.table.now after.table.now (stored (book_of before)) e
+Filled before after e (Err why) = after.table.now ≡ before.table.now
+
+-- the item that a tie enters
+abbrev pub tie_of : ℤ → ℤ → Item
+tie_of x y = item.Tie (unsigned_abs x) (unsigned_abs y)
+
 -- an accepted call changes the table so, and a refusal writes nothing
-abbrev pub Filled : {H : Type 0} → (Book → List (Place H) → List (Place H) → Type 0) → Register H → Register H → Result ℕ Refusal → Type 0
-Filled Stands before after (Ok n) = Stands (book_of before) before.table.now after.table.now
-Filled Stands before after (Err why) = after.table.now ≡ before.table.now
+abbrev pub FilledBy : {H : Type 0} → (Book → List (Place H) → List (Place H) → Type 0) → Register H → Register H → Result ℕ Refusal → Type 0
+FilledBy Stands before after (Ok n) = Stands (book_of before) before.table.now after.table.now
+FilledBy Stands before after (Err why) = after.table.now ≡ before.table.now
 
 -- the questions put to a facet that is to be an object: those of start, then those of the facet
 abbrev pub lone_questions : Book → List ℤ → List (Refusal × Bool)

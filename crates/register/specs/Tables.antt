@@ -20,6 +20,12 @@ tieds_of {H} t = map (λ (p : Place H). p.tied) t
 unfoldable pub hulls_of : {H : Type 0} → List (Place H) → List H
 hulls_of {H} t = map (λ (p : Place H). p.hull) t
 
+-- one place has a new item and its hull, and every other place keeps both
+pub record Wrote {H : Type 0} (before after : List (Place H)) (at : ℕ) (e : Item) : Type 0 where
+  pub hull : H
+  pub items : items_of after ≡ slice_set (items_of before) at e
+  pub hulls : hulls_of after ≡ slice_set (hulls_of before) at hull
+
 -- the place of a facet, with the hull that grows from its corners
 abbrev pub facet_place : {H : Type 0} → (Corner → H) → (H → Corner → H) → Facet → Place H
 facet_place begun grown f = record { item = item.Facet f; height = 0; tied = false; hull = fold grown (begun f.a) (f.b ∷ f.c ∷ []) }

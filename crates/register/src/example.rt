@@ -1,7 +1,7 @@
 // How a draft is spent.
 ghost use Rattle.book.specs.Facets.{facet_of};
 ghost use Rattle.register.specs.Tables.{FacetStands};
-ghost use Rattle.register.specs.Registers.{book_of, Grown, Filled, FiledAlone};
+ghost use Rattle.register.specs.Registers.{book_of, Grown, FilledBy, FiledAlone};
 
 use super::draft::{Draft, Unclosed};
 use super::register::Register;
@@ -14,7 +14,7 @@ pub(crate) fn enter_one<H: Hull>(
     numbers: [i64; 9],
 ) -> Result<u32, Refusal>
     ensures book { FiledAlone (book_of register.old) numbers result (book_of register.new) }
-    ensures table { Filled (FacetStands H.Hull.begun H.Hull.grown (facet_of numbers)) register.old register.new result }
+    ensures table { FilledBy (FacetStands H.Hull.begun H.Hull.grown (facet_of numbers)) register.old register.new result }
     ensures grown { Grown H.Hull.begun H.Hull.grown register.old → Grown H.Hull.begun H.Hull.grown register.new }
 {
     let draft = register.start()?;

@@ -4,7 +4,7 @@ ghost use Rattle.book.specs.declared.call.Call.{Call};
 ghost use Rattle.book.specs.Facets.{facet_of};
 ghost use Rattle.book.specs.Books.{Said};
 ghost use Rattle.register.specs.Tables.{FacetStands};
-ghost use Rattle.register.specs.Registers.{book_of, Grown, entered, Filled};
+ghost use Rattle.register.specs.Registers.{book_of, Grown, entered, Filled, FilledBy};
 
 use super::draft::Draft;
 use super::place::Place;
@@ -28,7 +28,8 @@ impl Draft {
     ) -> (Draft, Result<u32, Refusal>)
         ensures said { Said (book_of register.old) (Call.Facet self.mark numbers) (entered result.1) (book_of register.new) }
         ensures back { result.0 ≡ self }
-        ensures table { Filled (FacetStands H.Hull.begun H.Hull.grown (facet_of numbers)) register.old register.new result.1 }
+        ensures table { Filled register.old register.new (Item.Facet (facet_of numbers)) result.1 }
+        ensures place { FilledBy (FacetStands H.Hull.begun H.Hull.grown (facet_of numbers)) register.old register.new result.1 }
         ensures grown { Grown H.Hull.begun H.Hull.grown register.old → Grown H.Hull.begun H.Hull.grown register.new }
         ensures lent { register.new.table.ghost_name ≡ register.old.table.ghost_name }
     {

@@ -7,7 +7,7 @@ ghost use Rattle.book.specs.Books.{joins, tie_height_lem, Said};
 ghost use Rattle.book.specs.Pages.{sane, heights};
 ghost use Rattle.book.specs.Ledgers.{drafted};
 ghost use Rattle.register.specs.Tables.{items_of, heights_of, tieds_of, Joined, FreeParts, TieStands};
-ghost use Rattle.register.specs.Registers.{book_of, Grown, entered, Filled, with_tie, Joining};
+ghost use Rattle.register.specs.Registers.{book_of, Grown, entered, Filled, FilledBy, tie_of, with_tie, Joining};
 
 use super::draft::Draft;
 use super::place::Place;
@@ -142,7 +142,8 @@ impl Draft {
     ) -> (Draft, Result<u32, Refusal>)
         ensures said { Said (book_of register.old) (Call.Tie self.mark x y) (entered result.1) (book_of register.new) }
         ensures back { result.0 ≡ self }
-        ensures table { Filled (TieStands H.Hull.grown (unsigned_abs x) (unsigned_abs y)) register.old register.new result.1 }
+        ensures table { Filled register.old register.new (tie_of x y) result.1 }
+        ensures place { FilledBy (TieStands H.Hull.grown (unsigned_abs x) (unsigned_abs y)) register.old register.new result.1 }
         ensures grown { Grown H.Hull.begun H.Hull.grown register.old → Grown H.Hull.begun H.Hull.grown register.new }
         ensures lent { register.new.table.ghost_name ≡ register.old.table.ghost_name }
     {

@@ -8,7 +8,7 @@ use ball::BallHull;
 use book::{Answer, Call, Comparison, Item, Request};
 use faced::{BoxHull, ManyHull};
 use hull::{Corner, Hull};
-use register::{Place, replay};
+use register::{Place, replay_requests};
 use std::alloc::{AllocError, Global};
 
 // What the lent list holds at first. No history has such a pair.
@@ -114,7 +114,7 @@ impl History {
         let mut table = vec![in heap; place; self.opening.places]?;
         let mut answers = vec![in heap; UNANSWERED; self.requests.len()]?;
         let mut lists = vec![in heap; UNTOUCHED; self.opening.lent]?;
-        replay(
+        replay_requests(
             self.opening.mark,
             table.as_mut_slice(),
             self.requests.as_slice(),

@@ -5,7 +5,7 @@ use Rattle.walks.specs.Runs.{Compared}
 use Rattle.register.specs.Registers.{book_of}
 use Rattle.register.specs.Comparing.{compared}
 use Rattle.register.proofs.Stretching.{lent, returned, front, back}
-use Rattle.register.proofs.history.compare_at.Goals as goal
+use Rattle.register.proofs.requests.compare_at.Goals as goal
 
 pub returns : goal.returns
 returns g c =

@@ -1,0 +1,52 @@
+use Rattle.std.proofs.Common.{◌≡◌, ℕ, ◌+◌, ◌*◌, ◌<◌, ◌≤◌, min, List, [], ◌∷◌, ◌++◌, length, get_or, take, drop, set, sym, refl, ap, ◌∙◌, subst, subst₂, arith}
+use Rattle.std.proofs.lemmas.List.{drop-set-lt, drop-drop}
+use Rattle.book.specs.declared.call.Answer.{Answer}
+use Rattle.book.specs.Books.{Book, opened}
+use Rattle.walks.specs.Runs.{Ran}
+use Rattle.walks.proofs.Runs.{Within, running_none, next_write, next_compare}
+use Rattle.register.specs.Registers.{book_of, Grown}
+use Rattle.register.proofs.requests.replay_requests.Goals as goal
+use Rattle.register.proofs.requests.replay_requests.Goals.{in-Write, in-Compare}
+
+pub loop-i-init : goal.loop-i-init
+loop-i-init g c = record { running = running_none _ _ _ _ _ _ _ _; grown = c.open-register.ensures.grown; kept = refl }
+
+pub compare_at-answer-requires : goal.compare_at-answer-requires
+compare_at-answer-requires g c = omega (arith, c.loop-i.invariant.running.from_is)
+
+-- the other answers stay
+kept_set : (before answers : List Answer) (i : ℕ) (a : Answer) → drop i answers ≡ drop i before → drop (i + 1) (set answers i a) ≡ drop (i + 1) before
+kept_set before answers i a e = drop-set-lt (i + 1) answers i a (omega arith) ∙ (sym (drop-drop 1 i answers) ∙ (ap (drop 1) e ∙ drop-drop 1 i before))
+
+pub loop-i-preserved : goal.loop-i-preserved
+loop-i-preserved g c =
+    let i = c.loop-i.i in
+    let hr : c.loop-i.i < length c.args.requests.now = omega arith in
+    let ha : c.loop-i.i < length c.loop-i.answers = omega arith in
+    elim c.match-requests-i.branch [
+      | in-Write w ↦ rw (w.answers-is, w.lists-is, w.register-is, w.from-is) (record {
+        running = next_write _ _ _ _ _ _ _ _ c.args.requests.now c.loop-i.answers i hr ha c.loop-i.from c.loop-i.lists _ w.in-Write.call w.make.result w.in-Write.is c.loop-i.invariant.running w.make.ensures.said;
+        grown = w.make.ensures.grown c.loop-i.invariant.grown;
+        kept = kept_set c.args.answers.now c.loop-i.answers i w.make.result c.loop-i.invariant.kept;
+      })
+      | in-Compare w ↦ rw (w.answers-is, w.lists-is, w.register-is, w.from-is) (record {
+        running = next_compare _ _ _ _ _ _ _ _ c.args.requests.now c.loop-i.answers i hr ha c.loop-i.from c.loop-i.lists _ w.in-Compare.comparison w.compare_at-answer.result.0 w.in-Compare.is c.loop-i.invariant.running
+            (record { long = w.compare_at-answer.auto.lists; front = w.compare_at-answer.ensures.front; back = w.compare_at-answer.ensures.back; to_is = w.compare_at-answer.ensures.next }) (w.compare_at-answer.ensures.answer c.loop-i.invariant.grown);
+        grown = c.loop-i.invariant.grown;
+        kept = kept_set c.args.answers.now c.loop-i.answers i _ c.loop-i.invariant.kept;
+      })
+    ]
+
+pub returns : goal.returns
+returns g c =
+    let r = c.loop-i.invariant.running in
+    let e : c.loop-i.i ≡ min (length c.args.requests.now) (length c.args.answers.now) = omega arith in
+    record {
+      ran = record {
+        last = book_of c.loop-i.register;
+        comparisons = r.comparisons;
+        ran = subst₂ (λ (b : Book) (n : ℕ). Ran g.H.Hull.begun g.H.Hull.grown g.H.Hull.reaches g.H.Hull.faced g.H.Hull.unrounded c.args.places c.args.lists.now c.loop-i.lists 0 b (take n c.args.requests.now) (take n c.loop-i.answers) r.comparisons (book_of c.loop-i.register)) c.open-register.ensures.book e r.ran;
+        answers_kept = subst (λ (n : ℕ). drop n c.loop-i.answers ≡ drop n c.args.answers.now) e c.loop-i.invariant.kept;
+        lists_kept = r.kept;
+      };
+    }

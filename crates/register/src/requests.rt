@@ -1,0 +1,73 @@
+// Whole histories of requests: the calls that write, and comparisons among them.
+ghost use Rattle.std.specs.Prelude.{◌≡◌, ◌+◌, ◌≤◌, min, length, take, drop};
+ghost use Rattle.register.specs.Registers.{book_of, Grown};
+ghost use Rattle.register.specs.Comparing.{compared};
+ghost use Rattle.walks.specs.Runs.{Compared, Replayed};
+
+use super::history::make;
+use super::place::Place;
+use super::register::Register;
+use book::{Answer, Comparison, Refusal, Request};
+use hull::Hull;
+
+// What a comparison answers.
+fn answer_of(res: Result<(usize, u64), Refusal>) -> Answer
+    ensures { result ≡ compared res }
+{
+    match res {
+        Ok((pairs, tests)) => Answer::Listed(pairs, tests),
+        Err(why) => Answer::Refused(why),
+    }
+}
+
+// Makes a comparison whose list is the stretch of so many places from one on, cut to what there is. The answer comes with the place
+// where the next stretch begins.
+fn compare_at<H: Hull>(
+    register: &Register<'_, H>,
+    comparison: Comparison,
+    lists: &mut [(u32, u32)],
+    from: usize,
+    places: usize,
+) -> (Answer, usize)
+    requires { from ≤ length lists.old }
+    ensures answer { Grown H.Hull.begun H.Hull.grown register.now → Compared H.Hull.begun H.Hull.grown H.Hull.reaches H.Hull.faced H.Hull.unrounded (book_of register.now) comparison (take places (drop from lists.old)) (take places (drop from lists.new)) result.0 }
+    ensures front { take from lists.new ≡ take from lists.old }
+    ensures back { drop result.1 lists.new ≡ drop result.1 lists.old }
+    ensures next { result.1 ≡ min (from + places) (length lists.old) }
+{
+    let to = from + places.min(lists.len() - from);
+    let moved = comparison.moved;
+    let standing = comparison.standing;
+    let placement = comparison.placement;
+    let result = register.compare(moved, standing, placement, &mut lists[from..to]);
+    (answer_of(result), to)
+}
+
+// Opens a register over the table and makes the calls in turn, as many as there are places for answers. Comparison k lists its pairs in
+// the k-th stretch of so many places.
+pub fn replay_requests<H: Hull>(
+    mark: u16,
+    table: &mut [Place<H>],
+    requests: &[Request],
+    answers: &mut [Answer],
+    places: usize,
+    lists: &mut [(u32, u32)],
+)
+    ensures ran { Replayed H.Hull.begun H.Hull.grown H.Hull.reaches H.Hull.faced H.Hull.unrounded mark (length table.old) requests.now answers.old answers.new places lists.old lists.new }
+{
+    let mut register = Register::open(mark, table);
+    let count = requests.len().min(answers.len());
+    let mut from = 0;
+    for i in 0..count {
+        match requests[i] {
+            Request::Write(call) => {
+                answers[i] = make(&mut register, call);
+            }
+            Request::Compare(comparison) => {
+                let (answer, next) = compare_at(&register, comparison, lists, from, places);
+                answers[i] = answer;
+                from = next;
+            }
+        }
+    }
+}
