@@ -26,7 +26,7 @@ use Rattle.book.proofs.Answering.{tie_5, tie_7, tie_yes}
 use Rattle.book.proofs.Growth.{grown_pushed, from_tie}
 use Rattle.register.specs.declared.place.Place.{Place}
 use Rattle.register.specs.declared.register.Register.{Register}
-use Rattle.register.specs.Tables.{items_of, heights_of, tieds_of, hulls_of, Joined, FreeParts, place_of, tie_place, TieStands}
+use Rattle.register.specs.Tables.{items_of, heights_of, tieds_of, hulls_of, Joined, FreeParts, Wrote, place_of, tie_place, TieStands}
 use Rattle.register.specs.Registers.{book_of, Grown, Joining, with_tie}
 use Rattle.register.proofs.Flagging.{thrice, length_thrice, joined}
 use Rattle.register.proofs.Fields.{table_of, sound, sound_as, Ghosts, spread, stored_place, length_items, length_heights, length_tieds, length_hulls, items_set, heights_set, tieds_set, hulls_set, items_slice, heights_slice, tieds_slice, hulls_slice, items_at, hulls_at}
@@ -53,6 +53,18 @@ module _ {H : Type 0} (r : Register H) (t : List (Place H)) (n : length t ≡ le
 item_place : {H : Type 0} (r : Register H) (x : ℕ) → place_of (book_of r) x ≡ r.ledger.base + x
 unfolding book_of book_over
 item_place r x = omega (arith, r.kept.1, r.alone.0)
+
+-- what is written at one place, by its item and hull alone
+module _ {H : Type 0} (before : List (Place H)) (at : ℕ) (p : Place H) (e : Item) (is : p.item ≡ e) where
+  pub wrote_set : (after : List (Place H)) → after ≡ set before at p → Wrote before after at e
+  wrote_set after w = record {
+    hull = p.hull;
+    items = ap items_of w ∙ (items_set before at p ∙ ap (set (items_of before) at) is);
+    hulls = ap hulls_of w ∙ hulls_set before at p;
+  }
+
+  pub wrote_joined : (after : List (Place H)) (i j : ℕ) → Joined before after i j at p → Wrote before after at e
+  wrote_joined after i j w = record { hull = p.hull; items = w.items ∙ ap (set (items_of before) at) is; hulls = w.hulls }
 
 -- a facet is written at the first free place
 module _ {H : Type 0} (r : Register H) (o : r.ledger.drafting ≡ true) (lt : r.ledger.used < r.ledger.end) (f : Facet) (p : Place H) (is : p.item ≡ item.Facet f) where

@@ -18,7 +18,7 @@ returns-in-Ok-close g c =
     let d = c.in-Ok-close.ensures in
     record {
       book = closed _ _ _ s.said _ _ s.marked f.back _ _ f.said _ c.in-Ok.is _ _ d.said;
-      table = table_stands c.args.register.now c.start.new.self c.facet-answer.new.register c.close.new.register s.table d.table g.H.Hull.begun g.H.Hull.grown _ _ f.table _ c.in-Ok.is s.said;
+      table = table_stands c.args.register.now c.start.new.self c.facet-answer.new.register c.close.new.register s.table d.table g.H.Hull.begun g.H.Hull.grown _ _ f.place _ c.in-Ok.is s.said;
       grown = λ w. d.grown (f.grown (s.grown w));
     }
 
@@ -41,7 +41,7 @@ returns-in-Ok-drop g c =
     let d = c.drop.ensures in
     record {
       book = dropped _ _ _ s.said _ _ s.marked f.back _ _ f.said _ c.in-Err.is _ _ d.said;
-      table = table_kept c.args.register.now c.start.new.self c.facet-answer.new.register c.drop.new.register s.table d.table g.H.Hull.begun g.H.Hull.grown _ _ f.table _ c.in-Err.is;
+      table = table_kept c.args.register.now c.start.new.self c.facet-answer.new.register c.drop.new.register s.table d.table g.H.Hull.begun g.H.Hull.grown _ _ f.place _ c.in-Err.is;
       grown = λ w. d.grown (f.grown (s.grown w));
     }
 

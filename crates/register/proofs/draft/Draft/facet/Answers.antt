@@ -12,16 +12,17 @@ use Rattle.register.proofs.Entering.{ghosts_facet, book_facet, grown_facet}
 use Rattle.register.proofs.draft.Draft.facet.Goals as goal
 
 pub returns-then-not-holds : goal.returns-then-not-holds
-returns-then-not-holds g c = record { said = other_draft (book_of c.args.register.now) _ _ c.args.self.mark refl (sym c.holds.ensures ∙ c.if-not_holds.true); back = refl; table = refl; grown = λ w. w; lent = refl }
+returns-then-not-holds g c = record { said = other_draft (book_of c.args.register.now) _ _ c.args.self.mark refl (sym c.holds.ensures ∙ c.if-not_holds.true); back = refl; table = refl; place = refl; grown = λ w. w; lent = refl }
 
 pub returns-in-default : goal.returns-in-default
-returns-in-default g c = record { said = facet_4 (book_of c.args.register.now) c.args.self.mark (sym c.holds.ensures ∙ c.if-not_holds.false) c.args.numbers c.in-default.ensures; back = refl; table = refl; grown = λ w. w; lent = refl }
+returns-in-default g c = record { said = facet_4 (book_of c.args.register.now) c.args.self.mark (sym c.holds.ensures ∙ c.if-not_holds.false) c.args.numbers c.in-default.ensures; back = refl; table = refl; place = refl; grown = λ w. w; lent = refl }
 
 pub returns-then-not-has_room : goal.returns-then-not-has_room
 returns-then-not-has_room g c = record {
   said = facet_5 (book_of c.args.register.now) c.args.self.mark (sym c.holds.ensures ∙ c.if-not_holds.false) c.args.numbers c.in-Some.ensures.0 (sym c.has_room.ensures.room ∙ c.if-not_has-room.true);
   back = refl;
   table = refl;
+  place = refl;
   grown = λ w. w;
   lent = refl;
 }
@@ -60,12 +61,14 @@ returns g c =
     let h = sym c.holds.ensures ∙ c.if-not_holds.false in
     let o = (here_parts r.ledger _ m h).0 in
     let lt = ltb-true _ _ (sym c.has_room.ensures.below ∙ c.if-not_has-room.false) in
+    let placed : _ = record { item = item.Facet c.in-Some.facet; height = 0; tied = false; hull = c.facet_hull.result } in
     record {
       said = goes (book_of r) _ _ _ (facet_yes (book_of r) m h c.args.numbers c.in-Some.ensures.0 (sym c.has_room.ensures.room ∙ c.if-not_has-room.false))
           (ap answer.Entered (sym (written_length _ _ _ _ _ (sound r) (length_items r.table.now) o)))
           (book_facet r o lt c.in-Some.facet _ refl ∙ ap (λ q. added (book_of r) (item.Facet q)) is);
       back = refl;
-      table = cc (is, c.facet_hull.ensures, stored_place r);
+      table = subst (λ (k : ℕ). Wrote r.table.now (set r.table.now r.ledger.used placed) k (item.Facet (facet_of c.args.numbers))) (sym (stored_place r)) (wrote_set r.table.now r.ledger.used placed _ (ap item.Facet is) _ refl);
+      place = cc (is, c.facet_hull.ensures, stored_place r);
       grown = grown_facet r o lt c.in-Some.facet _ refl _ _ c.facet_hull.ensures;
       lent = refl;
     }

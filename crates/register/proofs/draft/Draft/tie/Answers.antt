@@ -14,7 +14,7 @@ use Rattle.register.proofs.Entering.{page_items, page_heights, page_tieds, page_
 use Rattle.register.proofs.draft.Draft.tie.Goals as goal
 
 pub returns-then-not-holds : goal.returns-then-not-holds
-returns-then-not-holds g c = record { said = other_draft (book_of c.args.register.now) _ _ c.args.self.mark refl (sym c.holds.ensures ∙ c.if-not_holds.true); back = refl; table = refl; grown = λ w. w; lent = refl }
+returns-then-not-holds g c = record { said = other_draft (book_of c.args.register.now) _ _ c.args.self.mark refl (sym c.holds.ensures ∙ c.if-not_holds.true); back = refl; table = refl; place = refl; grown = λ w. w; lent = refl }
 
 pub free_parts-requires : goal.free_parts-requires
 free_parts-requires g c = page_tieds c.args.register.now _ c.page-page.ensures
@@ -35,6 +35,7 @@ returns-in-default g c =
       said = tie_6 (book_of r) c.args.self.mark h _ (page_some r.ledger _ (here_parts r.ledger _ c.args.self.mark h).0) c.args.x c.args.y (subst (λ q. joins q c.args.x c.args.y ≡ false) (page_items r _ c.page-page.ensures) no);
       back = refl;
       table = refl;
+      place = refl;
       grown = λ w. w;
       lent = refl;
     }
@@ -53,6 +54,7 @@ returns-then-height-gt-HEIGHT g c =
       said = too_high c.args.register.now _ c.page-page.ensures _ _ _ _ f _ c.tie_height-height.ensures c.args.self.mark (sym c.holds.ensures ∙ c.if-not_holds.false) c.if-height-gt-HEIGHT.true;
       back = refl;
       table = refl;
+      place = refl;
       grown = λ w. w;
       lent = refl;
     }
@@ -64,6 +66,7 @@ returns-then-not-has_room g c =
       said = table_full c.args.register.now _ c.page-page.ensures _ _ _ _ f _ c.tie_height-height.ensures c.args.self.mark (sym c.holds.ensures ∙ c.if-not_holds.false) c.if-height-gt-HEIGHT.false (sym c.has_room.ensures.room ∙ c.if-not_has-room.true);
       back = refl;
       table = refl;
+      place = refl;
       grown = λ w. w;
       lent = refl;
     }
@@ -122,7 +125,8 @@ returns g c =
           (ap answer.Entered (page_count r _ e ∙ sym (written_length _ _ _ _ _ (sound r) (length_items r.table.now) o)))
           (book_after r a b tie j t w _ c.join.ensures.ledger ∙ ap (added (book_of r)) is);
       back = refl;
-      table = tie_stands r _ e _ a b c.index-page-left.result (i_in r _ e _ _ _ _ f) c.index-page-left.is _ c.over_item.ensures _ _ f _ k tie refl j t w;
+      table = subst₂ (λ (k : ℕ) (e : Item). Wrote r.table.now t k e) (sym (stored_place r)) is (wrote_joined r.table.now r.ledger.used tie _ refl t _ _ w);
+      place = tie_stands r _ e _ a b c.index-page-left.result (i_in r _ e _ _ _ _ f) c.index-page-left.is _ c.over_item.ensures _ _ f _ k tie refl j t w;
       grown = λ v. grown_after r a b tie j t w _ c.join.ensures.ledger _ _ (hull_grown r _ e _ a b c.index-page-left.result (i_in r _ e _ _ _ _ f) c.index-page-left.is _ c.over_item.ensures _ v.page) v;
       lent = c.join.ensures.lent;
     }
