@@ -1,12 +1,12 @@
 -- The reach as the code sums it up.
-use Rattle.std.proofs.Common.{◌≡◌, ℕ, ◌<◌, List, [], ◌∷◌, map, length, get_or, ℤ, pos, negsuc, ◌+ℤ◌, sym, refl, ap, ◌∙◌, subst, ap₂, arith}
+use Rattle.std.proofs.Common.{◌≡◌, ℕ, ◌<◌, List, [], ◌∷◌, map, length, get_or, ℤ, pos, negsuc, ◌+ℤ◌, sym, refl, ap, ◌∙◌, ap₂, arith}
 use lib.IntN.{+ℤ_idr, +ℤ_assoc}
 use Rattle.std.specs.List.{AllByRecursion as All}
 use Rattle.std.proofs.ByRecursion.{All-map, All-weaker}
 use Rattle.hull.specs.declared.face.FaceWeight.{FaceWeight}
 use Rattle.hull.specs.declared.face.Weight.{Weight}
 use Rattle.hull.specs.Weights.{divided}
-use Rattle.support.specs.Supports.{share, support, sum_of, reach_on}
+use Rattle.support.specs.Supports.{share, support, reach_on}
 use Rattle.support.proofs.FacedLaws.{Listed}
 use Rattle.faced.specs.Terms.{counted, term, terms}
 

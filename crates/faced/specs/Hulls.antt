@@ -1,5 +1,5 @@
 -- The box and the 26-faced hull.
-use Rattle.std.specs.Prelude.{ℕ, List, take, ℤ}
+use Rattle.std.specs.Prelude.{List, take, ℤ}
 use Rattle.hull.specs.declared.corner.Corner.{Corner}
 use Rattle.hull.specs.declared.direction.Direction.{Direction}
 use Rattle.hull.specs.Weights.{box_weights_lem, many_weights_lem}

@@ -1,5 +1,5 @@
 -- What a direction's weights, as the direction keeps them, add to a reach.
-use Rattle.std.specs.Prelude.{ℕ, List, ℤ, pos, negsuc, ◌*ℤ◌, slice_index_or}
+use Rattle.std.specs.Prelude.{List, ℤ, pos, negsuc, ◌*ℤ◌, slice_index_or}
 use Rattle.hull.specs.declared.face.FaceWeight.{FaceWeight}
 use Rattle.support.specs.Supports.{sum_of}
 

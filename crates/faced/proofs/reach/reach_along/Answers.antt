@@ -1,4 +1,4 @@
-use Rattle.std.proofs.Common.{◌≡◌, ℕ, ◌^◌, ◌<◌, length, get_or, ℤ, pos, ◌+ℤ◌, ◌∙◌, ap₂, arith, lit<, w16, w64, SFits, rules}
+use Rattle.std.proofs.Common.{◌^◌, ◌<◌, get_or, pos, ◌+ℤ◌, ◌∙◌, ap₂, arith, lit<, w16, w64, SFits, rules}
 use Rattle.std.proofs.ByRecursion.{All-get_or}
 use Rattle.std.proofs.lemmas.Int.{to_z-of_z}
 use Rattle.hull.specs.declared.face.FaceWeight.{FaceWeight}

@@ -1,4 +1,4 @@
-use Rattle.std.proofs.Common.{◌≡◌, ◌≤◌, ℤ, ◌*ℤ◌, nat_abs, refl, lit<, w32}
+use Rattle.std.proofs.Common.{◌≤◌, ◌*ℤ◌, nat_abs, refl, lit<, w32}
 use Rattle.std.proofs.lemmas.Int.{to_z-of_z}
 use Rattle.hull.specs.Units.{corner_limit}
 use Rattle.integers.proofs.Order.{small_mul}

@@ -1,4 +1,4 @@
-use Rattle.std.proofs.Common.{◌*◌, ◌≤◌, ℤ, ◌+ℤ◌, nat_abs, sym, ◌∙◌, subst, ap₂, lit<, w8, w16, w32, SFits, rules}
+use Rattle.std.proofs.Common.{◌*◌, ◌≤◌, ℤ, ◌+ℤ◌, nat_abs, sym, ◌∙◌, subst, ap₂, lit<, w8, w16, w32}
 use Rattle.std.proofs.lemmas.Int.{to_z-of_z}
 use Rattle.hull.specs.Units.{corner_limit}
 use Rattle.integers.proofs.Fits.{fits, sum_fits, sum3_fits, sum3_is, sum3_small}

@@ -1,8 +1,8 @@
-use Rattle.std.proofs.Common.{◌≡◌, ◌<◌, ◌≤◌, List, length, get_or, set, ℤ, pos, sym, refl, ap, ◌∙◌, subst, ap₂, arith, w16, SFits, rules}
+use Rattle.std.proofs.Common.{◌≡◌, ◌<◌, ◌≤◌, List, length, get_or, set, ℤ, pos, sym, ap, ◌∙◌, subst, ap₂, w16, SFits, rules}
 use Rattle.std.proofs.lemmas.Int.{to_z-of_z}
 use Rattle.std.specs.Int.{int_max}
 use Rattle.support.specs.Supports.{supports}
-use Rattle.support.proofs.Tables.{raised_to, raised_read, raised_more, raised_all, supports_length}
+use Rattle.support.proofs.Tables.{raised_read, raised_more, raised_all, supports_length}
 use Rattle.faced.proofs.supports.raise.Goals as goal
 
 pub loop-i-preserved : goal.loop-i-preserved

@@ -1,4 +1,4 @@
-use Rattle.std.proofs.Common.{◌≡◌, sym, ap, ◌∙◌, w16, w32, SFits}
+use Rattle.std.proofs.Common.{sym, ap, ◌∙◌, w16, w32, SFits}
 use Rattle.std.proofs.lemmas.Int.{to_z-of_z}
 use Rattle.support.specs.Supports.{kept}
 use Rattle.support.proofs.Tables.{small_at, support_at}

@@ -1,6 +1,5 @@
 use Rattle.std.proofs.Common.{List, ℤ, ap, ◌∙◌}
 use Rattle.support.proofs.Tables.{raised_lowest}
-use Rattle.faced.specs.declared.kinds.BoxHull.{BoxHull}
 use Rattle.faced.proofs.kinds.BoxHullHull.first.Goals as goal
 
 pub returns : goal.returns

@@ -1,4 +1,4 @@
-use Rattle.std.proofs.Common.{ℕ, ◌<◌, List, sym, ap, ◌∙◌, subst, lit<, w64}
+use Rattle.std.proofs.Common.{◌<◌, List, sym, ap, ◌∙◌, subst, lit<, w64}
 use Rattle.std.specs.List.{AllByRecursion as All}
 use Rattle.std.proofs.lemmas.Int.{to_z-of_z}
 use Rattle.hull.specs.declared.face.FaceWeight.{FaceWeight}
