@@ -1,5 +1,5 @@
 -- Whether some axis parts two hulls, as a test.
-use Rattle.std.proofs.Common.{◌≡◌, ℕ, ◌<◌, Bool, true, false, ◌||◌, T, ◌⊎◌, List, [], ◌∷◌, ℤ, pos, ◌<ℤ◌, sym, refl, subst, inl, inr, ⊎_elim, arith}
+use Rattle.std.proofs.Common.{◌≡◌, ℕ, Bool, true, false, ◌||◌, T, ◌⊎◌, List, [], ◌∷◌, ℤ, pos, sym, refl, subst, inl, inr, ⊎_elim, arith}
 use lib.Signed.{lt_z, lt_z_yes}
 use Rattle.std.specs.List.{ContainsAt as Has, AllByRecursion as All}
 use Rattle.std.proofs.ByRecursion.{all-has, has_get_or, has_append_right}

@@ -1,6 +1,6 @@
 -- The list that a walk fills from its start.
-use Rattle.std.proofs.Common.{◌≡◌, ℕ, ◌+◌, ◌<◌, ◌≤◌, List, [], ◌∷◌, ◌++◌, length, take, drop, set, sym, refl, ap, ◌∙◌, subst, append_assoc, arith}
-use Rattle.std.proofs.lemmas.List.{take_more_set, drop-set-lt, drop-drop, length-set, take-append-drop, length-take-le, length-append, take_all, take-append-le}
+use Rattle.std.proofs.Common.{◌≡◌, ℕ, ◌+◌, ◌<◌, ◌≤◌, List, [], ◌∷◌, ◌++◌, length, take, drop, set, sym, ap, ◌∙◌, append_assoc, arith}
+use Rattle.std.proofs.lemmas.List.{drop-set-lt, drop-drop, length-set, take-append-drop, length-take-le, length-append, take_all, take-append-le}
 use Rattle.walks.specs.Answers.{AllHeld, FirstHeld}
 
 -- so many places of the list are filled, and the others are as before

@@ -1,9 +1,8 @@
 -- A walk ends in one way only.
 use Rattle.std.proofs.Common.{◌≡◌, ℕ, ◌+◌, Bool, true, false, cond, ◌⊎◌, List, [], ◌∷◌, ◌++◌, sym, refl, ap, ◌∙◌, subst, ap₂, inl, inr}
-use Rattle.book.specs.declared.item.Facet.{Facet}
 use Rattle.book.specs.Trees.{Tree, leaf, node}
 use Rattle.walks.proofs.Totals.{walk_total}
-use Rattle.walks.specs.Walks.{Walk, apart, facets, tie_facet, facet_tie, ties, Once}
+use Rattle.walks.specs.Walks.{Walk, apart, facets, tie_facet, facet_tie, ties}
 
 -- pairs and tests
 abbrev pub Result : Type 0

@@ -1,11 +1,11 @@
 -- What a walk lists, and what it leaves out.
-use Rattle.std.proofs.Common.{◌≡◌, ℕ, ◌+◌, ◌*◌, ◌≤◌, ◌⊎◌, List, [], ◌∷◌, ◌++◌, sym, refl, ap, ◌∙◌, ap₂, subst₂, inl, inr, ⊎_elim, arith}
+use Rattle.std.proofs.Common.{◌≡◌, ℕ, ◌⊎◌, List, ◌++◌, sym, refl, ap, ap₂, subst₂, inl, inr, ⊎_elim, arith}
 use mathlib.Core.List.Memᴰ
 use mathlib.Core.List.{Memᴰ}
 use Rattle.book.specs.declared.item.Facet.{Facet}
 use Rattle.book.specs.Trees.{Tree, leaf, node, number}
-use Rattle.walks.proofs.Inside.{Inside, itself, first, second, Separate, items}
-use Rattle.walks.specs.Walks.{Walk, apart, facets, tie_facet, facet_tie, ties, Once}
+use Rattle.walks.proofs.Inside.{Inside, itself, first, second}
+use Rattle.walks.specs.Walks.{Walk, apart, facets, tie_facet, facet_tie, ties}
 
 module _ (Parted : Tree → Tree → Type 0) where
   -- a leaf lies under a tie only under one of its parts

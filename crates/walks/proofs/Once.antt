@@ -1,12 +1,12 @@
 -- No pair is listed twice.
-use Rattle.std.proofs.Common.{◌≡◌, ℕ, ◌⊎◌, List, [], ◌∷◌, ◌++◌, sym, refl, subst, inl, inr, ⊎_elim}
+use Rattle.std.proofs.Common.{ℕ, List, [], ◌∷◌, ◌++◌, refl, ⊎_elim}
 use mathlib.Core.List.Memᴰ
 use mathlib.Core.List.{Memᴰ}
 use Rattle.book.specs.declared.item.Facet.{Facet}
-use Rattle.book.specs.Trees.{Tree, leaf, node}
-use Rattle.walks.proofs.Inside.{Inside, itself, first, second, Separate, items}
+use Rattle.book.specs.Trees.{Tree, leaf}
+use Rattle.walks.proofs.Inside.{Inside, Separate}
 use Rattle.walks.specs.Walks.{Walk, apart, facets, tie_facet, facet_tie, ties, Once}
-use Rattle.walks.proofs.Listings.{Listed, listed_facets}
+use Rattle.walks.proofs.Listings.{listed_facets}
 
 once_append : {X : Type 0} (xs ys : List X) → Once xs → Once ys → ((x : X) → Memᴰ x xs → Memᴰ x ys → ⊥) → Once (xs ++ ys)
 once_append [] ys a b f = b

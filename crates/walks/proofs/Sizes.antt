@@ -4,7 +4,7 @@ use Rattle.std.proofs.lemmas.List.{length-set, length-map, get_or-map, get_or-se
 use Rattle.book.specs.declared.item.Item.{Item}
 use Rattle.book.specs.declared.item.Item.TheVariants as item
 use Rattle.book.specs.Pages.{allowed, goes_on, sane}
-use Rattle.book.specs.Trees.{Tree, leaf, node, tree, trees, tree_of, no_tree, flags, tied}
+use Rattle.book.specs.Trees.{tree, trees, tree_of, no_tree, flags, tied}
 use Rattle.book.proofs.Forest.{trees_push, length_trees, tie_allowed, sane_push}
 use Rattle.book.proofs.Flags.{length_flags, get_or_flags, flags_facet, flags_tie, tied_part, part_at}
 use Rattle.walks.proofs.Inside.{items}

@@ -1,5 +1,5 @@
 -- The list of a comparison is complete, tight and, for kinds with faces, exact.
-use Rattle.std.proofs.Common.{◌≡◌, ℕ, suc, ◌+◌, ◌-◌, ◌<◌, ◌≤◌, true, ◌⊎◌, List, [], ◌∷◌, ◌++◌, length, ℤ, fold, sym, refl, ap, ◌∙◌, subst, subst₂, inl, inr, ⊎_elim, append_assoc, arith}
+use Rattle.std.proofs.Common.{◌≡◌, ℕ, suc, ◌-◌, ◌<◌, true, List, [], ◌∷◌, ◌++◌, length, ℤ, fold, sym, ap, ◌∙◌, subst, subst₂, ⊎_elim, append_assoc, arith}
 use mathlib.Core.List.{Memᴰ}
 use Rattle.std.specs.List.{ContainsAt as Has, AllByRecursion as All}
 use Rattle.std.proofs.ByRecursion.{all_has_itself, All-weaker, has_append_left, has_append_right}

@@ -1,5 +1,5 @@
 -- What a turn of the walk over stored hulls knows.
-use Rattle.std.proofs.Common.{◌≡◌, ℕ, ◌+◌, ◌-◌, ◌*◌, ◌<◌, ◌≤◌, Bool, true, false, List, [], ◌∷◌, ◌++◌, map, length, get_or, take, set, ℤ, pos, Ok, Err, sym, refl, ap, ◌∙◌, subst, ap₂, subst₂, arith}
+use Rattle.std.proofs.Common.{◌≡◌, ℕ, ◌+◌, ◌-◌, ◌*◌, ◌<◌, ◌≤◌, Bool, true, false, List, [], ◌∷◌, ◌++◌, length, get_or, take, set, ℤ, pos, Ok, Err, sym, refl, ap, ◌∙◌, subst, ap₂, subst₂, arith}
 use Rattle.std.proofs.lemmas.List.{get_or-map, append-nil, take_more_set}
 use Rattle.std.proofs.lemmas.Bool.{false≢true}
 use Rattle.hull.specs.declared.direction.Direction.{Direction}
@@ -10,7 +10,7 @@ use Rattle.book.specs.declared.item.Item.TheVariants as item
 use Rattle.book.specs.declared.refusal.Refusal.TheVariants.{ListFull}
 use Rattle.book.specs.Limits.{height_limit}
 use Rattle.book.specs.Pages.{sane, complete}
-use Rattle.book.specs.Trees.{Tree, number, height, tree}
+use Rattle.book.specs.Trees.{Tree, number, tree}
 use Rattle.book.proofs.Forest.{low_at}
 use Rattle.book.proofs.Wholes.{complete_parts, some_item}
 use Rattle.walks.specs.Walks.{Walk}

@@ -1,10 +1,9 @@
 -- The walk ends in one way, and its tests are few.
-use Rattle.std.proofs.Common.{◌≡◌, ℕ, ◌+◌, ◌*◌, ◌≤◌, ◌⊎◌, List, [], ◌∷◌, ◌++◌, sym, refl, ap, ◌∙◌, subst, ap₂, inl, inr, arith}
+use Rattle.std.proofs.Common.{◌≡◌, ℕ, ◌+◌, ◌*◌, ◌≤◌, ◌⊎◌, List, [], ◌∷◌, ◌++◌, inl, inr, arith}
 use native.Mathlib.Nat as N
-use Rattle.book.specs.declared.item.Facet.{Facet}
 use Rattle.book.specs.Trees.{Tree, leaf, node}
-use Rattle.walks.proofs.Inside.{Inside, itself, first, second, Separate, items}
-use Rattle.walks.specs.Walks.{Walk, apart, facets, tie_facet, facet_tie, ties, Once}
+use Rattle.walks.proofs.Inside.{items}
+use Rattle.walks.specs.Walks.{Walk, apart, facets, tie_facet, facet_tie, ties}
 
 module _ (Parted : Tree → Tree → Type 0) (decide : (t u : Tree) → Parted t u ⊎ (Parted t u → ⊥)) where
   -- some walk there is

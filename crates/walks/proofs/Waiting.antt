@@ -1,7 +1,7 @@
 -- The walk by a waiting list: what the pairs that wait still add, and how many tests they still make.
-use Rattle.std.proofs.Common.{◌≡◌, ℕ, ◌+◌, ◌<◌, ◌≤◌, max, Bool, true, false, cond, List, [], ◌∷◌, ◌++◌, fold, sym, refl, ap, ◌∙◌, ap₂, append_assoc, arith}
+use Rattle.std.proofs.Common.{◌≡◌, ℕ, ◌+◌, ◌≤◌, Bool, true, false, cond, List, [], ◌∷◌, ◌++◌, fold, sym, ap, ◌∙◌, append_assoc, arith}
 use Rattle.book.specs.declared.item.Facet.{Facet}
-use Rattle.book.specs.Trees.{Tree, leaf, node, height}
+use Rattle.book.specs.Trees.{Tree, leaf, node}
 use Rattle.book.proofs.Forest.{folded_append}
 use Rattle.walks.proofs.Functional.{Result, none, two, four, walked}
 

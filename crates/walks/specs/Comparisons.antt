@@ -1,5 +1,5 @@
 -- What the list of a comparison says of the facets of a moved object o and a standing object q under a placement p.
-use Rattle.std.specs.Prelude.{◌≡◌, ℕ, ◌+◌, ◌-◌, ◌*◌, ◌<◌, ◌≤◌, List, [], ◌∷◌, length, ℤ, fold}
+use Rattle.std.specs.Prelude.{◌≡◌, ℕ, ◌+◌, ◌-◌, ◌*◌, ◌<◌, ◌≤◌, List, length, ℤ, fold}
 use mathlib.Core.List.{Memᴰ}
 use Rattle.std.specs.List.{ContainsAt as Has, AllByRecursion as All}
 use Rattle.hull.specs.declared.corner.Corner.{Corner}

@@ -1,5 +1,5 @@
 -- The walk over two trees.
-use Rattle.std.specs.Prelude.{◌≡◌, ℕ, ◌+◌, List, [], ◌∷◌, ◌++◌}
+use Rattle.std.specs.Prelude.{ℕ, ◌+◌, List, [], ◌∷◌, ◌++◌}
 use mathlib.Core.List.{Memᴰ}
 use Rattle.book.specs.declared.item.Facet.{Facet}
 use Rattle.book.specs.Trees.{Tree, leaf, node}
