@@ -1,11 +1,11 @@
 -- The worked cases are worked out.
-use Rattle.std.proofs.Common.{◌≡◌, ℕ, ◌+◌, ◌-◌, ◌*◌, ◌<◌, ◌≤◌, max, [], ◌∷◌, ℤ, pos, negsuc, ◌+ℤ◌, sym, refl, ap, ◌∙◌, ap₂, arith, lit<, lit≤}
+use Rattle.std.proofs.Common.{◌≡◌, ℕ, ◌*◌, max, [], ◌∷◌, pos, ◌+ℤ◌, sym, refl, ap₂, arith, lit<, lit≤}
 use Rattle.integers.specs.Roots.{root_up}
 use Rattle.integers.specs.Rounding.{div_up}
 use Rattle.integers.proofs.Roots.{root_is}
 use Rattle.hull.specs.Directions.{direction}
 use Rattle.hull.specs.Faces.{place}
-use Rattle.cases.specs.Worked.{corner, ball_with, upward, lifted, Lifted, Worked}
+use Rattle.cases.specs.Worked.{corner, ball_with, lifted, Lifted, Worked}
 use Rattle.pairs.specs.Axes.{axes_of_lem, as_axis, turned}
 use Rattle.pairs.specs.Directions.{separating, moved_direction, standing_direction, opposite}
 use Rattle.walks.specs.Walks.{apart, facets}

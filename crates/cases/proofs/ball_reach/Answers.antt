@@ -1,9 +1,7 @@
 use Rattle.std.proofs.Common.{◌≡◌, ℤ, pos, Some, ap, ◌∙◌, ap₂, w64}
 use Rattle.std.proofs.lemmas.Int.{to_z-of_z}
-use Rattle.hull.specs.declared.corner.Corner.{Corner}
 use Rattle.hull.specs.Directions.{direction}
 use Rattle.hull.proofs.Same.{same_corner, same_direction}
-use Rattle.ball.specs.declared.kind.BallHull.{BallHull}
 use Rattle.ball.specs.Balls.{ball_begun, ball_grown, ball_reach_lem}
 use Rattle.cases.specs.Worked.{corner, origin, ball_with, upward}
 use Rattle.cases.proofs.WorkedOut.{worked}
