@@ -19,7 +19,11 @@ pub invariant_of-result : goal.invariant_of-result
 invariant_of-result c =
     let p = c.args.p.now in
     let a = c.args.a.now in
-    (bound p.x a c.turn_entry.result c.turn_entry.ensures, (bound p.y a c.turn_entry-2.result c.turn_entry-2.ensures, (bound p.z a c.turn_entry-3.result c.turn_entry-3.ensures, tt)))
+    record {
+      x_in = bound p.x a c.turn_entry.result c.turn_entry.ensures;
+      y_in = bound p.y a c.turn_entry-2.result c.turn_entry-2.ensures;
+      z_in = bound p.z a c.turn_entry-3.result c.turn_entry-3.ensures;
+    }
 
 pub returns : goal.returns
 unfolding turned

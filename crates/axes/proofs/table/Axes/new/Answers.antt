@@ -18,4 +18,4 @@ pub invariant_of-result : goal.invariant_of-result
 invariant_of-result c =
     let l = c.loop-i in
     let e : c.loop-i.i ≡ axis_count = omega arith in
-    (all_there c.args.p l.each l.invariant.0 (subst (λ n. take n l.each ≡ take n (separating_axes c.args.p)) e l.invariant.1), tt)
+    record { are_its = all_there c.args.p l.each l.invariant.0 (subst (λ n. take n l.each ≡ take n (separating_axes c.args.p)) e l.invariant.1) }
