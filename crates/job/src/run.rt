@@ -76,7 +76,7 @@ pub(crate) fn run<H: Hull + Clone>(
     fault: Option<Fault>,
 ) -> Result<String, AllocError>
     requires { length entries.now.blames.items ≡ length entries.now.requests.items }
-    ensures { IfOk result (λ s. Prints H.Hull.begun H.Hull.grown H.Hull.reaches H.Hull.faced H.Hull.unrounded fault 0 (opened mark job_items) entries.now.requests.items entries.now.blames.items (string_bytes s)) }
+    ensures { IfOk result (λ s. Prints H.begun H.grown H.reaches H.faced H.unrounded fault 0 (opened mark job_items) entries.now.requests.items entries.now.blames.items (string_bytes s)) }
 {
     let requests = entries.requests.as_slice();
     let mut table = blank_table::<H>(heap)?;

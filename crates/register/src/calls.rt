@@ -21,7 +21,7 @@ impl<'t, H: Hull> Register<'t, H> {
     // A register with this mark over the table, with no draft and no object.
     pub fn open(mark: u16, table: &'t mut [Place<H>]) -> Register<'t, H>
         ensures book { book_of result ≡ opened mark (length table.old) }
-        ensures grown { Grown H.Hull.begun H.Hull.grown result }
+        ensures grown { Grown H.begun H.grown result }
         ensures table { result.table.now ≡ table.old }
     {
         let end = if table.len() < PLACES {
@@ -84,7 +84,7 @@ impl<'t, H: Hull> Register<'t, H> {
         ensures said { Said (book_of self.old) Call.Start (started result) (book_of self.new) }
         ensures marked { Marked (book_of self.old).mark result }
         ensures table { self.new.table.now ≡ self.old.table.now }
-        ensures grown { Grown H.Hull.begun H.Hull.grown self.old → Grown H.Hull.begun H.Hull.grown self.new }
+        ensures grown { Grown H.begun H.grown self.old → Grown H.begun H.grown self.new }
         ensures lent { self.new.table.ghost_name ≡ self.old.table.ghost_name }
     {
         if self.ledger.drafting {
@@ -107,7 +107,7 @@ impl Draft {
         ensures back { BackFromClose self result }
         ensures whole { (k : ℕ) → k < length (book_of register.new).objects → Whole (slice_index_or (book_of register.new).objects k []) }
         ensures table { register.new.table.now ≡ register.old.table.now }
-        ensures grown { Grown H.Hull.begun H.Hull.grown register.old → Grown H.Hull.begun H.Hull.grown register.new }
+        ensures grown { Grown H.begun H.grown register.old → Grown H.begun H.grown register.new }
         ensures lent { register.new.table.ghost_name ≡ register.old.table.ghost_name }
     {
         if !register.holds(&self) {
@@ -135,7 +135,7 @@ impl Draft {
         ensures said { Said (book_of register.old) (Call.Drop self.mark) (removed result) (book_of register.new) }
         ensures back { BackFromDrop self result }
         ensures table { register.new.table.now ≡ register.old.table.now }
-        ensures grown { Grown H.Hull.begun H.Hull.grown register.old → Grown H.Hull.begun H.Hull.grown register.new }
+        ensures grown { Grown H.begun H.grown register.old → Grown H.begun H.grown register.new }
         ensures lent { register.new.table.ghost_name ≡ register.old.table.ghost_name }
     {
         if !register.holds(&self) {

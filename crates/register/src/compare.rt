@@ -39,8 +39,8 @@ impl<'t, H: Hull> Register<'t, H> {
         placement: [i64; 12],
         pairs: &mut [(u32, u32)],
     ) -> Result<(usize, u64), Refusal>
-        ensures stored { Answers (book_of self.now) (comparison moved standing placement) (WalkStored H.Hull.reaches (places_of self.now moved) (places_of self.now standing)) pairs.old pairs.new (compared result) }
-        ensures grown { Grown H.Hull.begun H.Hull.grown self.now → Answers (book_of self.now) (comparison moved standing placement) (Listing H.Hull.begun H.Hull.grown H.Hull.reaches H.Hull.faced H.Hull.unrounded (object (book_of self.now) moved) (object (book_of self.now) standing)) pairs.old pairs.new (compared result) }
+        ensures stored { Answers (book_of self.now) (comparison moved standing placement) (WalkStored H.reaches (places_of self.now moved) (places_of self.now standing)) pairs.old pairs.new (compared result) }
+        ensures grown { Grown H.begun H.grown self.now → Answers (book_of self.now) (comparison moved standing placement) (Listing H.begun H.grown H.reaches H.faced H.unrounded (object (book_of self.now) moved) (object (book_of self.now) standing)) pairs.old pairs.new (compared result) }
     {
         let Some(left) = self.object(moved) else {
             return Err(Refusal::NoSuchObject);

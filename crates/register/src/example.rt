@@ -14,8 +14,8 @@ pub(crate) fn enter_one<H: Hull>(
     numbers: [i64; 9],
 ) -> Result<u32, Refusal>
     ensures book { FiledAlone (book_of register.old) numbers result (book_of register.new) }
-    ensures table { FilledBy (FacetStands H.Hull.begun H.Hull.grown (facet_of numbers)) register.old register.new result }
-    ensures grown { Grown H.Hull.begun H.Hull.grown register.old → Grown H.Hull.begun H.Hull.grown register.new }
+    ensures table { FilledBy (FacetStands H.begun H.grown (facet_of numbers)) register.old register.new result }
+    ensures grown { Grown H.begun H.grown register.old → Grown H.begun H.grown register.new }
 {
     let draft = register.start()?;
     let (draft, answer) = draft.facet(register, numbers);

@@ -14,7 +14,7 @@ use hull::Hull;
 
 // The hull of a facet.
 fn facet_hull<H: Hull>(facet: Facet) -> H
-    ensures { result ≡ fold H.Hull.grown (H.Hull.begun facet.a) (facet.b ∷ facet.c ∷ []) }
+    ensures { result ≡ fold H.grown (H.begun facet.a) (facet.b ∷ facet.c ∷ []) }
 {
     H::first(facet.a).more(facet.b).more(facet.c)
 }
@@ -29,8 +29,8 @@ impl Draft {
         ensures said { Said (book_of register.old) (Call.Facet self.mark numbers) (entered result.1) (book_of register.new) }
         ensures back { result.0 ≡ self }
         ensures table { Filled register.old register.new (Item.Facet (facet_of numbers)) result.1 }
-        ensures place { FilledBy (FacetStands H.Hull.begun H.Hull.grown (facet_of numbers)) register.old register.new result.1 }
-        ensures grown { Grown H.Hull.begun H.Hull.grown register.old → Grown H.Hull.begun H.Hull.grown register.new }
+        ensures place { FilledBy (FacetStands H.begun H.grown (facet_of numbers)) register.old register.new result.1 }
+        ensures grown { Grown H.begun H.grown register.old → Grown H.begun H.grown register.new }
         ensures lent { register.new.table.ghost_name ≡ register.old.table.ghost_name }
     {
         if !register.holds(&self) {

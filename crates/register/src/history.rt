@@ -13,7 +13,7 @@ use hull::Hull;
 // Makes one call, with a draft of the mark that it names.
 pub(crate) fn make<H: Hull>(register: &mut Register<'_, H>, call: Call) -> Answer
     ensures said { Said (book_of register.old) call result (book_of register.new) }
-    ensures grown { Grown H.Hull.begun H.Hull.grown register.old → Grown H.Hull.begun H.Hull.grown register.new }
+    ensures grown { Grown H.begun H.grown register.old → Grown H.begun H.grown register.new }
 {
     match call {
         Call::Start => match register.start() {

@@ -30,7 +30,7 @@ fn compare_at<H: Hull>(
     places: usize,
 ) -> (Answer, usize)
     requires { from ≤ length lists.old }
-    ensures answer { Grown H.Hull.begun H.Hull.grown register.now → Compared H.Hull.begun H.Hull.grown H.Hull.reaches H.Hull.faced H.Hull.unrounded (book_of register.now) comparison (take places (drop from lists.old)) (take places (drop from lists.new)) result.0 }
+    ensures answer { Grown H.begun H.grown register.now → Compared H.begun H.grown H.reaches H.faced H.unrounded (book_of register.now) comparison (take places (drop from lists.old)) (take places (drop from lists.new)) result.0 }
     ensures front { take from lists.new ≡ take from lists.old }
     ensures back { drop result.1 lists.new ≡ drop result.1 lists.old }
     ensures next { result.1 ≡ min (from + places) (length lists.old) }
@@ -53,7 +53,7 @@ pub fn replay_requests<H: Hull>(
     places: usize,
     lists: &mut [(u32, u32)],
 )
-    ensures ran { Replayed H.Hull.begun H.Hull.grown H.Hull.reaches H.Hull.faced H.Hull.unrounded mark (length table.old) requests.now answers.old answers.new places lists.old lists.new }
+    ensures ran { Replayed H.begun H.grown H.reaches H.faced H.unrounded mark (length table.old) requests.now answers.old answers.new places lists.old lists.new }
 {
     let mut register = Register::open(mark, table);
     let count = requests.len().min(answers.len());

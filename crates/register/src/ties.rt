@@ -66,7 +66,7 @@ fn tie_height<H: Hull>(page: &[Place<H>], x: usize, y: usize) -> u8
 
 // The hull, grown over the corners of a facet.
 fn over_facet<H: Hull>(hull: H, facet: Facet) -> H
-    ensures { result ≡ fold H.Hull.grown hull (corners_of facet) }
+    ensures { result ≡ fold H.grown hull (corners_of facet) }
 {
     hull.more(facet.a).more(facet.b).more(facet.c)
 }
@@ -74,7 +74,7 @@ fn over_facet<H: Hull>(hull: H, facet: Facet) -> H
 // The hull, grown over the corners of item y.
 fn over_item<H: Hull>(page: &[Place<H>], hull: H, y: u32) -> H
     requires { (sane (items_of page.now) ≡ true) × (y < length page.now) }
-    ensures { result ≡ fold H.Hull.grown hull (corners (tree (items_of page.now) y)) }
+    ensures { result ≡ fold H.grown hull (corners (tree (items_of page.now) y)) }
 {
     let mut places = [0u32; 33];
     let mut stack = Stack::over(&mut places);
@@ -143,8 +143,8 @@ impl Draft {
         ensures said { Said (book_of register.old) (Call.Tie self.mark x y) (entered result.1) (book_of register.new) }
         ensures back { result.0 ≡ self }
         ensures table { Filled register.old register.new (tie_of x y) result.1 }
-        ensures place { FilledBy (TieStands H.Hull.grown (unsigned_abs x) (unsigned_abs y)) register.old register.new result.1 }
-        ensures grown { Grown H.Hull.begun H.Hull.grown register.old → Grown H.Hull.begun H.Hull.grown register.new }
+        ensures place { FilledBy (TieStands H.grown (unsigned_abs x) (unsigned_abs y)) register.old register.new result.1 }
+        ensures grown { Grown H.begun H.grown register.old → Grown H.begun H.grown register.new }
         ensures lent { register.new.table.ghost_name ≡ register.old.table.ghost_name }
     {
         if !register.holds(&self) {

@@ -60,7 +60,7 @@ pub(crate) fn walk<H: Hull>(
 ) -> Result<(usize, u64), Refusal>
     requires moved { (complete (items_of moved.now) ≡ true) × (length moved.now ≤ place_limit) }
     requires standing { (complete (items_of standing.now) ≡ true) × (length standing.now ≤ place_limit) }
-    ensures { WalkedInto (WalkStored H.Hull.reaches moved.now standing.now axes.now.placement) pairs.old pairs.new result }
+    ensures { WalkedInto (WalkStored H.reaches moved.now standing.now axes.now.placement) pairs.old pairs.new result }
 {
     let mut places = [(0u32, 0u32); WAITING];
     let mut stack = Stack::over(&mut places);
