@@ -18,7 +18,7 @@ fn room(lower: i64, upper: i64) -> i128
 
 // The room between the standing hull's upper end and the moved hull's lower end along the axis.
 pub fn first_gap<H: Hull>(axis: &SeparatingAxis, moved: &H, standing: &H) -> i128
-    ensures { result ≡ first_gap_lem (reaches moved.now) (reaches standing.now) axis.now }
+    ensures { result ≡ first_gap_lem (H.reaches moved.now) (H.reaches standing.now) axis.now }
 {
     let lower = moved.reach(&axis.moved_down);
     let upper = standing.reach(&axis.standing_up);
@@ -27,7 +27,7 @@ pub fn first_gap<H: Hull>(axis: &SeparatingAxis, moved: &H, standing: &H) -> i12
 
 // The room between the moved hull's upper end and the standing hull's lower end along the axis.
 pub fn second_gap<H: Hull>(axis: &SeparatingAxis, moved: &H, standing: &H) -> i128
-    ensures { result ≡ second_gap_lem (reaches moved.now) (reaches standing.now) axis.now }
+    ensures { result ≡ second_gap_lem (H.reaches moved.now) (H.reaches standing.now) axis.now }
 {
     let lower = standing.reach(&axis.standing_down);
     let upper = moved.reach(&axis.moved_up);
@@ -36,7 +36,7 @@ pub fn second_gap<H: Hull>(axis: &SeparatingAxis, moved: &H, standing: &H) -> i1
 
 // Both gaps along an axis of the placement, counted from 0.
 pub fn gaps<H: Hull>(axes: &Axes, axis: usize, moved: &H, standing: &H) -> Option<(i128, i128)>
-    ensures { MatchOption result (axis_count ≤ axis) (λ g. GapsAt (reaches moved.now) (reaches standing.now) axes.now.placement axis g.0 g.1) }
+    ensures { MatchOption result (axis_count ≤ axis) (λ g. GapsAt (H.reaches moved.now) (H.reaches standing.now) axes.now.placement axis g.0 g.1) }
 {
     let s = axes.each.get(axis)?;
     let first = first_gap(s, moved, standing);
@@ -54,20 +54,20 @@ fn above_zero(gap: i128) -> bool
 
 // Whether the axis parts the hulls.
 fn parts<H: Hull>(axis: &SeparatingAxis, moved: &H, standing: &H) -> bool
-    ensures yes { T result → Parts (reaches moved.now) (reaches standing.now) axis.now }
-    ensures no { Parts (reaches moved.now) (reaches standing.now) axis.now → T result }
+    ensures yes { T result → Parts (H.reaches moved.now) (H.reaches standing.now) axis.now }
+    ensures no { Parts (H.reaches moved.now) (H.reaches standing.now) axis.now → T result }
 {
     above_zero(first_gap(axis, moved, standing)) || above_zero(second_gap(axis, moved, standing))
 }
 
 // Whether some axis of the placement parts the moved hull and the standing one.
 pub fn parted<H: Hull>(axes: &Axes, moved: &H, standing: &H) -> bool
-    ensures found { T result → Parted (reaches moved.now) (reaches standing.now) axes.now.placement }
-    ensures missed { Parted (reaches moved.now) (reaches standing.now) axes.now.placement → T result }
-    ensures touching { TouchingUnparted axes.now.placement (fits moved.now) (fits standing.now) (T result) }
-    ensures near { UnpartedNear axes.now.placement (fits moved.now) (fits standing.now) (T result) }
-    ensures parts_unrounded { PartedUnrounded axes.now.placement (fits moved.now) (fits standing.now) faced (reaches moved.now) (reaches standing.now) unrounded }
-    ensures near_unrounded { UnpartedUnroundedNear axes.now.placement (fits moved.now) (fits standing.now) faced unrounded (T result) }
+    ensures found { T result → Parted (H.reaches moved.now) (H.reaches standing.now) axes.now.placement }
+    ensures missed { Parted (H.reaches moved.now) (H.reaches standing.now) axes.now.placement → T result }
+    ensures touching { TouchingUnparted axes.now.placement (H.fits moved.now) (H.fits standing.now) (T result) }
+    ensures near { UnpartedNear axes.now.placement (H.fits moved.now) (H.fits standing.now) (T result) }
+    ensures parts_unrounded { PartedUnrounded axes.now.placement (H.fits moved.now) (H.fits standing.now) H.faced (H.reaches moved.now) (H.reaches standing.now) H.unrounded }
+    ensures near_unrounded { UnpartedUnroundedNear axes.now.placement (H.fits moved.now) (H.fits standing.now) H.faced H.unrounded (T result) }
 {
     for axis in &axes.each {
         if parts(axis, moved, standing) {

@@ -33,8 +33,8 @@ returns-then-parts g c =
       missed = λ _. tt;
       touching = touching_unparted p _ _ f k (laws.covers _) (laws.covers _) _ (λ _. yes);
       near = unparted_near p _ _ f k (laws.tight _) (laws.tight _) _ (λ _. tt);
-      parts-unrounded = parted_unrounded p _ _ f k _ _ (laws.rounds _) (laws.rounds _);
-      near-unrounded = unparted_unrounded_near p _ _ f k _ _ (laws.rounds _) (laws.rounds _) _ (λ _. tt);
+      parts_unrounded = parted_unrounded p _ _ f k _ _ (laws.rounds _) (laws.rounds _);
+      near_unrounded = unparted_unrounded_near p _ _ f k _ _ (laws.rounds _) (laws.rounds _) _ (λ _. tt);
     }
 
 pub returns : goal.returns
@@ -52,6 +52,6 @@ returns g c =
       missed = no;
       touching = touching_unparted p _ _ f k (laws.covers _) (laws.covers _) _ (λ t. absurd t);
       near = unparted_near p _ _ f k (laws.tight _) (laws.tight _) _ no;
-      parts-unrounded = parted_unrounded p _ _ f k _ _ (laws.rounds _) (laws.rounds _);
-      near-unrounded = unparted_unrounded_near p _ _ f k _ _ (laws.rounds _) (laws.rounds _) _ no;
+      parts_unrounded = parted_unrounded p _ _ f k _ _ (laws.rounds _) (laws.rounds _);
+      near_unrounded = unparted_unrounded_near p _ _ f k _ _ (laws.rounds _) (laws.rounds _) _ no;
     }
