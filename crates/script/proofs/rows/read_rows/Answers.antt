@@ -14,7 +14,7 @@ pub loop-row-preserved : goal.loop-row-preserved
 loop-row-preserved g c =
     let f = g.R.Row.form in
     let inv = c.loop-row.invariant in
-    let i = c.loop-row.-row in
+    let i = c.loop-row._row in
     let q = c.in_ok-request.request in
     let left = words c.read.new.input.rest.now in
     let told = c.in_ok-request.ensures in
@@ -31,7 +31,7 @@ loop-row-preserved g c =
 pub returns-in_err-request : goal.returns-in_err-request
 returns-in_err-request g c =
     let inv = c.loop-row.invariant in
-    let i = c.loop-row.-row in
+    let i = c.loop-row._row in
     let told = c.in_err-request.ensures in
     let p = err_from_is_err_and c.from_residual.result c.from_residual.ensures.1 in
     let cut = sym inv.4 ∙ rows_stop g.R.Row.form _ _ _ inv.0 (c.args.count - i) (c.args.count - (i + 1)) _ (omega arith) told.reads in
@@ -54,8 +54,8 @@ returns-in_err-put g c =
 pub returns : goal.returns
 returns g c =
     let inv = c.loop-row.invariant in
-    let i = c.loop-row.-row in
-    let all : c.loop-row.-row ≡ c.args.count = omega arith in
+    let i = c.loop-row._row in
+    let all : c.loop-row._row ≡ c.args.count = omega arith in
     record {
       section = inv.2;
       taken = inv.3 ∙ ap (λ n. c.args.input.now.taken + n * g.R.Row.form.width) all;

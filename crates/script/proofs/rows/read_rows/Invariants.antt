@@ -9,6 +9,6 @@ invariant-loop-row g l =
     (es : List Entry)
     × Grown l.initial.entries l.entries es
     × (l.input.section ≡ l.initial.input.section)
-    × (l.input.taken ≡ l.initial.input.taken + l.-row * g.R.Row.form.width)
-    × (before es (rows g.R.Row.form (l.count - l.-row) l.input.section l.input.taken (words l.input.rest.now))
+    × (l.input.taken ≡ l.initial.input.taken + l._row * g.R.Row.form.width)
+    × (before es (rows g.R.Row.form (l.count - l._row) l.input.section l.input.taken (words l.input.rest.now))
     ≡ rows g.R.Row.form l.count l.initial.input.section l.initial.input.taken (words l.initial.input.rest.now))
