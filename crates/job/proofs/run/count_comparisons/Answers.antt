@@ -5,7 +5,7 @@ use Rattle.book.specs.declared.call.Request.{Request}
 use Rattle.book.specs.declared.call.Request.TheVariants.{Write, Compare}
 use Rattle.job.specs.Prints.{comparisons_in}
 use Rattle.job.proofs.run.count_comparisons.Goals as goal
-use Rattle.job.proofs.run.count_comparisons.Goals.{in-Compare, in-default}
+use Rattle.job.proofs.run.count_comparisons.Goals.{in-Compare, in_default}
 
 -- a request that is no comparison is not counted
 other : (r : Request) (rs : List Request) → ((c : Comparison) → r ≡ Compare c → ⊥) → comparisons_in (r ∷ rs) ≡ comparisons_in rs
@@ -27,8 +27,8 @@ loop-request-preserved c =
       | in-Compare w ↦
           let k = at_drop_more comparisons_in xs i _ l ∙ ap (λ (r : Request). comparisons_in (r ∷ drop (i + 1) xs)) w.in-Compare.is in
           record { counted = omega (arith, w.count-is, k, c.loop-request.invariant.counted); few = omega (arith, w.count-is, c.loop-request.invariant.few) }
-      | in-default w ↦
-          let k = at_drop_more comparisons_in xs i _ l ∙ other _ (drop (i + 1) xs) w.in-default.not-Compare in
+      | in_default w ↦
+          let k = at_drop_more comparisons_in xs i _ l ∙ other _ (drop (i + 1) xs) w.in_default.not-Compare in
           record { counted = omega (arith, w.count-is, k, c.loop-request.invariant.counted); few = omega (arith, w.count-is, c.loop-request.invariant.few) }
     ]
 

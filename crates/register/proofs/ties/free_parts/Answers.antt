@@ -9,18 +9,18 @@ use Rattle.register.proofs.Reading.{tied_read}
 use Rattle.register.proofs.ties.free_parts.Goals as goal
 use Rattle.register.proofs.ties.free_parts.Goals.{then-i-j-via-then-i-j, then-i-j-via-else-i-j+then-left, then-i-j-via-else-i-j+else-left+then-right}
 
-pub returns-in-default : goal.returns-in-default
-returns-in-default g c =
+pub returns-in_default : goal.returns-in_default
+returns-in_default g c =
     let t = c.args.page.now in
     let f : SFits w64 c.args.x = search rules in
-    let past : (k : ℕ) → c.args.x ≡ pos k → length t ≤ k = simp to_z-of_z at c.in-default.ensures in
+    let past : (k : ℕ) → c.args.x ≡ pos k → length t ≤ k = simp to_z-of_z at c.in_default.ensures in
     joins_past_left (items_of t) c.args.x c.args.y (λ k e. omega (arith, length_items t, past k e))
 
-pub returns-in-default-number_below : goal.returns-in-default-number_below
-returns-in-default-number_below g c =
+pub returns-in_default-number_below : goal.returns-in_default-number_below
+returns-in_default-number_below g c =
     let t = c.args.page.now in
     let f : SFits w64 c.args.y = search rules in
-    let past : (k : ℕ) → c.args.y ≡ pos k → length t ≤ k = simp to_z-of_z at c.in-default-number_below.ensures in
+    let past : (k : ℕ) → c.args.y ≡ pos k → length t ≤ k = simp to_z-of_z at c.in_default-number_below.ensures in
     joins_past_right (items_of t) c.args.x c.args.y (λ k e. omega (arith, length_items t, past k e))
 
 pub returns-then-i-j : goal.returns-then-i-j

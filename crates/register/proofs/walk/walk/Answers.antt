@@ -95,5 +95,5 @@ loop-i-preserved g c = record {
 pub returns : goal.returns
 returns g c =
     let s = c.loop-i.stack in
-    let z : length (take s.len s.places.now) ≡ 0 = omega (arith, length-take-le s.len s.places.now s.within, c.in-default.ensures.held) in
+    let z : length (take s.len s.places.now) ≡ 0 = omega (arith, length-take-le s.len s.places.now s.within, c.in_default.ensures.held) in
     done _ z c.loop-i.invariant.state

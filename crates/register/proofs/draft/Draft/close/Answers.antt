@@ -16,7 +16,7 @@ unfolding book_of
 returns-then-not-holds g c =
     let r = c.args.register.now in
     record {
-      said = other_draft (book_of r) _ _ c.args.self.mark refl (sym c.holds.ensures ∙ c.if-not_holds.true);
+      said = other_draft (book_of r) _ _ c.args.self.mark refl (sym c.holds.ensures ∙ c.if-not-holds.true);
       back = refl;
       whole = objects_whole _ _ _ _ _ (sound r);
       table = refl;
@@ -29,7 +29,7 @@ unfolding book_of book_over
 returns-then-register-ne1 g c =
     let r = c.args.register.now in
     let m = c.args.self.mark in
-    let h = sym c.holds.ensures ∙ c.if-not_holds.false in
+    let h = sym c.holds.ensures ∙ c.if-not-holds.false in
     let after = c.clear.new.self in
     record {
       said = spent (book_of r) _ _ (close_8 (book_of r) m h (λ u. c.if-register-ne1.true (r.paged.2 ∙ (ap (λ q. untied (written q)) (sym (page_some r.ledger _ (here_parts r.ledger _ m h).0)) ∙ u)))) (book_cleared r after c.clear.ensures.ledger c.clear.ensures.table);
@@ -42,13 +42,13 @@ returns-then-register-ne1 g c =
 
 pub bounds-register-number : goal.bounds-register-number
 unfolding book_of
-bounds-register-number g c = let r = c.args.register.now in r.counted.2 (here_parts r.ledger _ c.args.self.mark (sym c.holds.ensures ∙ c.if-not_holds.false)).0
+bounds-register-number g c = let r = c.args.register.now in r.counted.2 (here_parts r.ledger _ c.args.self.mark (sym c.holds.ensures ∙ c.if-not-holds.false)).0
 
 pub invariant_of-register : goal.invariant_of-register
 unfolding book_of
 invariant_of-register g c =
     let r = c.args.register.now in
-    let h = sym c.holds.ensures ∙ c.if-not_holds.false in
+    let h = sym c.holds.ensures ∙ c.if-not-holds.false in
     spread _ _ (sound_filed _ _ _ _ _ (sound r) (length_items r.table.now) (here_parts r.ledger _ c.args.self.mark h).0 c.if-register-ne1.false) r.alone
 
 pub returns : goal.returns
@@ -56,7 +56,7 @@ unfolding book_of book_over
 returns g c =
     let r = c.args.register.now in
     let m = c.args.self.mark in
-    let h = sym c.holds.ensures ∙ c.if-not_holds.false in
+    let h = sym c.holds.ensures ∙ c.if-not-holds.false in
     let o = (here_parts r.ledger _ m h).0 in
     let n = length_items r.table.now in
     record {

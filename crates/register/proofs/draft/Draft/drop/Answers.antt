@@ -10,14 +10,14 @@ use Rattle.register.proofs.draft.Draft.drop.Goals as goal
 
 pub returns-then-not-holds : goal.returns-then-not-holds
 returns-then-not-holds g c =
-    record { said = other_draft (book_of c.args.register.now) _ _ c.args.self.mark refl (sym c.holds.ensures ∙ c.if-not_holds.true); back = refl; table = refl; grown = λ h. h; lent = refl }
+    record { said = other_draft (book_of c.args.register.now) _ _ c.args.self.mark refl (sym c.holds.ensures ∙ c.if-not-holds.true); back = refl; table = refl; grown = λ h. h; lent = refl }
 
 pub returns : goal.returns
 unfolding book_of book_over
 returns g c =
     let r = c.args.register.now in
     let m = c.args.self.mark in
-    let h = sym c.holds.ensures ∙ c.if-not_holds.false in
+    let h = sym c.holds.ensures ∙ c.if-not-holds.false in
     record {
       said = goes (book_of r) _ _ _ (drop_yes (book_of r) m h) (ap answer.Removed (sym (written_length _ _ _ _ _ (sound r) (length_items r.table.now) (here_parts r.ledger _ m h).0))) (book_cleared r c.clear.new.self c.clear.ensures.ledger c.clear.ensures.table);
       back = tt;

@@ -12,14 +12,14 @@ use Rattle.register.proofs.Entering.{ghosts_facet, book_facet, grown_facet}
 use Rattle.register.proofs.draft.Draft.facet.Goals as goal
 
 pub returns-then-not-holds : goal.returns-then-not-holds
-returns-then-not-holds g c = record { said = other_draft (book_of c.args.register.now) _ _ c.args.self.mark refl (sym c.holds.ensures ∙ c.if-not_holds.true); back = refl; table = refl; place = refl; grown = λ w. w; lent = refl }
+returns-then-not-holds g c = record { said = other_draft (book_of c.args.register.now) _ _ c.args.self.mark refl (sym c.holds.ensures ∙ c.if-not-holds.true); back = refl; table = refl; place = refl; grown = λ w. w; lent = refl }
 
-pub returns-in-default : goal.returns-in-default
-returns-in-default g c = record { said = facet_4 (book_of c.args.register.now) c.args.self.mark (sym c.holds.ensures ∙ c.if-not_holds.false) c.args.numbers c.in-default.ensures; back = refl; table = refl; place = refl; grown = λ w. w; lent = refl }
+pub returns-in_default : goal.returns-in_default
+returns-in_default g c = record { said = facet_4 (book_of c.args.register.now) c.args.self.mark (sym c.holds.ensures ∙ c.if-not-holds.false) c.args.numbers c.in_default.ensures; back = refl; table = refl; place = refl; grown = λ w. w; lent = refl }
 
 pub returns-then-not-has_room : goal.returns-then-not-has_room
 returns-then-not-has_room g c = record {
-  said = facet_5 (book_of c.args.register.now) c.args.self.mark (sym c.holds.ensures ∙ c.if-not_holds.false) c.args.numbers c.in-Some.ensures.0 (sym c.has_room.ensures.room ∙ c.if-not_has-room.true);
+  said = facet_5 (book_of c.args.register.now) c.args.self.mark (sym c.holds.ensures ∙ c.if-not-holds.false) c.args.numbers c.in-Some.ensures.0 (sym c.has_room.ensures.room ∙ c.if-not-has-room.true);
   back = refl;
   table = refl;
   place = refl;
@@ -29,7 +29,7 @@ returns-then-not-has_room g c = record {
 
 -- there is a place for the facet
 free_place : (g : _) (c : goal.After-facet_hull g) → c.args.register.now.ledger.used < c.args.register.now.ledger.end
-free_place g c = ltb-true _ _ (sym c.has_room.ensures.below ∙ c.if-not_has-room.false)
+free_place g c = ltb-true _ _ (sym c.has_room.ensures.below ∙ c.if-not-has-room.false)
 
 pub offset_bounds-register-at : goal.offset_bounds-register-at
 offset_bounds-register-at g c =
@@ -50,7 +50,7 @@ pub invariant_of-register : goal.invariant_of-register
 unfolding book_of
 invariant_of-register g c =
     let r = c.args.register.now in
-    ghosts_facet r (here_parts r.ledger _ c.args.self.mark (sym c.holds.ensures ∙ c.if-not_holds.false)).0 (ltb-true _ _ (sym c.has_room.ensures.below ∙ c.if-not_has-room.false)) c.in-Some.facet _ refl refl refl
+    ghosts_facet r (here_parts r.ledger _ c.args.self.mark (sym c.holds.ensures ∙ c.if-not-holds.false)).0 (ltb-true _ _ (sym c.has_room.ensures.below ∙ c.if-not-has-room.false)) c.in-Some.facet _ refl refl refl
 
 pub returns : goal.returns
 unfolding book_of
@@ -58,12 +58,12 @@ returns g c =
     let r = c.args.register.now in
     let m = c.args.self.mark in
     let is = c.in-Some.ensures.1 in
-    let h = sym c.holds.ensures ∙ c.if-not_holds.false in
+    let h = sym c.holds.ensures ∙ c.if-not-holds.false in
     let o = (here_parts r.ledger _ m h).0 in
-    let lt = ltb-true _ _ (sym c.has_room.ensures.below ∙ c.if-not_has-room.false) in
+    let lt = ltb-true _ _ (sym c.has_room.ensures.below ∙ c.if-not-has-room.false) in
     let placed : _ = record { item = item.Facet c.in-Some.facet; height = 0; tied = false; hull = c.facet_hull.result } in
     record {
-      said = goes (book_of r) _ _ _ (facet_yes (book_of r) m h c.args.numbers c.in-Some.ensures.0 (sym c.has_room.ensures.room ∙ c.if-not_has-room.false))
+      said = goes (book_of r) _ _ _ (facet_yes (book_of r) m h c.args.numbers c.in-Some.ensures.0 (sym c.has_room.ensures.room ∙ c.if-not-has-room.false))
           (ap answer.Entered (sym (written_length _ _ _ _ _ (sound r) (length_items r.table.now) o)))
           (book_facet r o lt c.in-Some.facet _ refl ∙ ap (λ q. added (book_of r) (item.Facet q)) is);
       back = refl;

@@ -14,7 +14,7 @@ use Rattle.register.proofs.Entering.{page_items, page_heights, page_tieds, page_
 use Rattle.register.proofs.draft.Draft.tie.Goals as goal
 
 pub returns-then-not-holds : goal.returns-then-not-holds
-returns-then-not-holds g c = record { said = other_draft (book_of c.args.register.now) _ _ c.args.self.mark refl (sym c.holds.ensures ∙ c.if-not_holds.true); back = refl; table = refl; place = refl; grown = λ w. w; lent = refl }
+returns-then-not-holds g c = record { said = other_draft (book_of c.args.register.now) _ _ c.args.self.mark refl (sym c.holds.ensures ∙ c.if-not-holds.true); back = refl; table = refl; place = refl; grown = λ w. w; lent = refl }
 
 pub free_parts-requires : goal.free_parts-requires
 free_parts-requires g c = page_tieds c.args.register.now _ c.page-page.ensures
@@ -23,14 +23,14 @@ free_parts-requires g c = page_tieds c.args.register.now _ c.page-page.ensures
 parts : (p : List Item) (x y : ℤ) (i k : ℕ) → SFits w64 x → SFits w64 y → FreeParts p (to_z w64 (of_z w64 x)) (to_z w64 (of_z w64 y)) i k → FreeParts p x y i k
 parts p x y i k fx fy f = record { x_is = sym (to_z-of_z w64 x fx) ∙ f.x_is; y_is = sym (to_z-of_z w64 y fy) ∙ f.y_is; free = f.free }
 
-pub returns-in-default : goal.returns-in-default
+pub returns-in_default : goal.returns-in_default
 unfolding book_of
-returns-in-default g c =
+returns-in_default g c =
     let r = c.args.register.now in
-    let h = sym c.holds.ensures ∙ c.if-not_holds.false in
+    let h = sym c.holds.ensures ∙ c.if-not-holds.false in
     let fx = c.ranges.x in
     let fy = c.ranges.y in
-    let no : joins (items_of c.page-page.result.now) c.args.x c.args.y ≡ false = simp to_z-of_z at c.in-default.ensures in
+    let no : joins (items_of c.page-page.result.now) c.args.x c.args.y ≡ false = simp to_z-of_z at c.in_default.ensures in
     record {
       said = tie_6 (book_of r) c.args.self.mark h _ (page_some r.ledger _ (here_parts r.ledger _ c.args.self.mark h).0) c.args.x c.args.y (subst (λ q. joins q c.args.x c.args.y ≡ false) (page_items r _ c.page-page.ensures) no);
       back = refl;
@@ -51,7 +51,7 @@ pub returns-then-height-gt-HEIGHT : goal.returns-then-height-gt-HEIGHT
 returns-then-height-gt-HEIGHT g c =
     let f = parts _ _ _ _ _ c.ranges.x c.ranges.y c.in-Some.ensures in
     record {
-      said = too_high c.args.register.now _ c.page-page.ensures _ _ _ _ f _ c.tie_height-height.ensures c.args.self.mark (sym c.holds.ensures ∙ c.if-not_holds.false) c.if-height-gt-HEIGHT.true;
+      said = too_high c.args.register.now _ c.page-page.ensures _ _ _ _ f _ c.tie_height-height.ensures c.args.self.mark (sym c.holds.ensures ∙ c.if-not-holds.false) c.if-height-gt-HEIGHT.true;
       back = refl;
       table = refl;
       place = refl;
@@ -63,7 +63,7 @@ pub returns-then-not-has_room : goal.returns-then-not-has_room
 returns-then-not-has_room g c =
     let f = parts _ _ _ _ _ c.ranges.x c.ranges.y c.in-Some.ensures in
     record {
-      said = table_full c.args.register.now _ c.page-page.ensures _ _ _ _ f _ c.tie_height-height.ensures c.args.self.mark (sym c.holds.ensures ∙ c.if-not_holds.false) c.if-height-gt-HEIGHT.false (sym c.has_room.ensures.room ∙ c.if-not_has-room.true);
+      said = table_full c.args.register.now _ c.page-page.ensures _ _ _ _ f _ c.tie_height-height.ensures c.args.self.mark (sym c.holds.ensures ∙ c.if-not-holds.false) c.if-height-gt-HEIGHT.false (sym c.has_room.ensures.room ∙ c.if-not-has-room.true);
       back = refl;
       table = refl;
       place = refl;
@@ -95,9 +95,9 @@ pub join-requires : goal.join-requires
 unfolding book_of
 join-requires g c =
     let r = c.args.register.now in
-    let h = sym c.holds.ensures ∙ c.if-not_holds.false in
+    let h = sym c.holds.ensures ∙ c.if-not-holds.false in
     may_join r _ c.page-page.ensures _ _ _ _ c.in-Some.ensures _ c.tie_height-height.ensures _ (here_parts r.ledger _ c.args.self.mark h).0
-    (ltb-true _ _ (sym c.has_room.ensures.below ∙ c.if-not_has-room.false)) c.if-height-gt-HEIGHT.false refl refl refl
+    (ltb-true _ _ (sym c.has_room.ensures.below ∙ c.if-not-has-room.false)) c.if-height-gt-HEIGHT.false refl refl refl
 
 pub overflow_cast-result : goal.overflow_cast-result
 overflow_cast-result g c = let n = page_small c.args.register.now _ c.page-page.ensures in search rules
@@ -109,19 +109,19 @@ returns g c =
     let m = c.args.self.mark in
     let a = c.in-Some.left in
     let b = c.in-Some.right in
-    let h = sym c.holds.ensures ∙ c.if-not_holds.false in
+    let h = sym c.holds.ensures ∙ c.if-not-holds.false in
     let o = (here_parts r.ledger _ m h).0 in
     let e = c.page-page.ensures in
     let f = parts _ _ _ _ _ c.ranges.x c.ranges.y c.in-Some.ensures in
     let low = c.if-height-gt-HEIGHT.false in
     let k = c.tie_height-height.ensures in
     let tie : _ = record { item = item.Tie a b; height = c.tie_height-height.result; tied = false; hull = c.over_item.result } in
-    let j = may_join r _ e _ _ a b f _ k tie o (ltb-true _ _ (sym c.has_room.ensures.below ∙ c.if-not_has-room.false)) low refl refl refl in
+    let j = may_join r _ e _ _ a b f _ k tie o (ltb-true _ _ (sym c.has_room.ensures.below ∙ c.if-not-has-room.false)) low refl refl refl in
     let t = c.join.new.self.table.now in
     let w = c.join.ensures.table in
     let is : item.Tie a b ≡ item.Tie (nat_abs c.args.x) (nat_abs c.args.y) = sym (ap (λ (z : ℤ). item.Tie (nat_abs z) (nat_abs c.args.y)) f.x_is ∙ ap (λ (z : ℤ). item.Tie a (nat_abs z)) f.y_is) in
     record {
-      said = goes (book_of r) _ _ _ (accepted r _ e _ _ _ _ f _ k m h low (sym c.has_room.ensures.room ∙ c.if-not_has-room.false))
+      said = goes (book_of r) _ _ _ (accepted r _ e _ _ _ _ f _ k m h low (sym c.has_room.ensures.room ∙ c.if-not-has-room.false))
           (ap answer.Entered (page_count r _ e ∙ sym (written_length _ _ _ _ _ (sound r) (length_items r.table.now) o)))
           (book_after r a b tie j t w _ c.join.ensures.ledger ∙ ap (added (book_of r)) is);
       back = refl;

@@ -17,28 +17,28 @@ use Rattle.register.proofs.register.Register.compare.Goals as goal
 laws_of : (g : given.Over) → Laws g.H.Hull.begun g.H.Hull.grown g.H.Hull.reaches g.H.Hull.fits g.H.Hull.faced g.H.Hull.unrounded
 laws_of g = record { one = g.met.H.Hull.one; another = g.met.H.Hull.another; covers = g.met.H.Hull.covers; tight = g.met.H.Hull.tight; rounds = g.met.H.Hull.rounds }
 
-pub returns-in-default : goal.returns-in-default
-returns-in-default g c =
+pub returns-in_default : goal.returns-in_default
+returns-in_default g c =
     let fm : SFits w64 c.args.moved = search rules in
-    let e = ap (λ v. v && closed (book_of c.args.self.now) c.args.standing) (simp to_z-of_z at c.in-default.ensures) in
+    let e = ap (λ v. v && closed (book_of c.args.self.now) c.args.standing) (simp to_z-of_z at c.in_default.ensures) in
     record { stored = no_object e refl; grown = λ h. no_object e refl }
 
-pub returns-in-default-object : goal.returns-in-default-object
-returns-in-default-object g c =
+pub returns-in_default-object : goal.returns-in_default-object
+returns-in_default-object g c =
     let fm : SFits w64 c.args.moved = search rules in
     let fs : SFits w64 c.args.standing = search rules in
     let ym : closed (book_of c.args.self.now) c.args.moved ≡ true = (simp to_z-of_z at c.in-Some.ensures).0 in
-    let e = ap₂ ◌&&◌ ym (simp to_z-of_z at c.in-default-object.ensures) in
+    let e = ap₂ ◌&&◌ ym (simp to_z-of_z at c.in_default-object.ensures) in
     record { stored = no_object e refl; grown = λ h. no_object e refl }
 
-pub returns-in-default-new : goal.returns-in-default-new
-returns-in-default-new g c =
+pub returns-in_default-new : goal.returns-in_default-new
+returns-in_default-new g c =
     let fm : SFits w64 c.args.moved = search rules in
     let fs : SFits w64 c.args.standing = search rules in
     let ym : closed (book_of c.args.self.now) c.args.moved ≡ true = (simp to_z-of_z at c.in-Some.ensures).0 in
     let ys : closed (book_of c.args.self.now) c.args.standing ≡ true = (simp to_z-of_z at c.in-Some-object.ensures).0 in
     let y = and_from _ _ ym ys in
-    record { stored = no_placement y c.in-default-new.ensures refl; grown = λ h. no_placement y c.in-default-new.ensures refl }
+    record { stored = no_placement y c.in_default-new.ensures refl; grown = λ h. no_placement y c.in_default-new.ensures refl }
 
 pub walk-requires : goal.walk-requires
 walk-requires g c =

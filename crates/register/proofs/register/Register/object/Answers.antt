@@ -14,10 +14,10 @@ no_span = record { from = 0; to = 0 }
 within : {H : Type 0} (r : Register H) (k : ℕ) → k < r.ledger.closed → (d : Span) → ((get_or r.ledger.spans k d).from ≤ (get_or r.ledger.spans k d).to) × ((get_or r.ledger.spans k d).to ≤ length r.table.now)
 within r k l d = let e = ends r k l d in (e.0, omega (arith, e.1, r.placed))
 
-pub returns-in-default : goal.returns-in-default
-returns-in-default g c =
+pub returns-in_default : goal.returns-in_default
+returns-in_default g c =
     let f : SFits w64 c.args.number = search rules in
-    closed_no c.args.self.now c.args.number (simp to_z-of_z at c.in-default.ensures)
+    closed_no c.args.self.now c.args.number (simp to_z-of_z at c.in_default.ensures)
 
 pub offset_bounds-table-from : goal.offset_bounds-table-from
 offset_bounds-table-from g c = let e = within c.args.self.now c.in-Some.k c.in-Some.ensures.1 (record { from = 0; to = 0 }) in omega arith
