@@ -35,7 +35,7 @@ module _ {H : Type 0} {begun : Corner → H} {grown : H → Corner → H} {reach
   lists : Shelved r m → Shelved r s → (p : Placement) (pairs : List (ℕ × ℕ)) (tests : ℕ) → WalkStored reaches (places_of r m) (places_of r s) p pairs tests → Listing begun grown reaches faced unrounded (object (book_of r) m) (object (book_of r) s) p pairs tests
   lists a b p pairs tests w =
       stored_listing laws (object (book_of r) m) (object (book_of r) s) a.whole b.whole p (hulls_of (places_of r m)) (hulls_of (places_of r s)) (long m a) (long s b) (a.grown begun grown g) (b.grown begun grown g)
-      (subst₂ (λ (o q : List Item). Walk (PartedStored reaches (hulls_of (places_of r m)) (hulls_of (places_of r s)) p) (root o) (root q) pairs tests) a.items_of b.object_items w)
+      (subst₂ (λ (o q : List Item). Walk (PartedStored reaches (hulls_of (places_of r m)) (hulls_of (places_of r s)) p) (root o) (root q) pairs tests) a.object_items b.object_items w)
 
   pub grown_answers : (n : List ℤ) {before after : List (ℕ × ℕ)} {a : Answer} → Answers (book_of r) (comparison m s n) (WalkStored reaches (places_of r m) (places_of r s)) before after a
       → Answers (book_of r) (comparison m s n) (Listing begun grown reaches faced unrounded (object (book_of r) m) (object (book_of r) s)) before after a

@@ -86,10 +86,16 @@ abbrev pub Alone : Ledger → ℕ → Type 0
 Alone l n = (l.first ≡ 0) × (l.end ≡ min n place_limit)
 
 abbrev pub Ghosts : {H : Type 0} → Ledger → List (Place H) → Type 0
-Ghosts l t = Placed l (length t) × (Counted l × (Kept l (items_of t) × (Drafted l (items_of t) (heights_of t) (tieds_of t) × (Alone l (length t) × Unit {0}))))
+Ghosts l t = record {
+  placed : Placed l (length t);
+  counted : Counted l;
+  kept : Kept l (items_of t);
+  paged : Drafted l (items_of t) (heights_of t) (tieds_of t);
+  alone : Alone l (length t);
+}
 
 pub spread : {H : Type 0} (l : Ledger) (t : List (Place H)) → Sound l (length t) (items_of t) (heights_of t) (tieds_of t) → Alone l (length t) → Ghosts l t
-spread l t s a = (s.placed, (s.counted, (s.kept, (s.paged, (a, tt)))))
+spread l t s a = record { placed = s.placed; counted = s.counted; kept = s.kept; paged = s.paged; alone = a }
 
 module _ {H : Type 0} (r : Register H) where
   abbrev pub table_of : List (Place H)

@@ -66,7 +66,7 @@ loop-i-preserved-then-parted g c = record {
 }
 
 pub push_parts-requires : goal.push_parts-requires
-push_parts-requires g c κs n =
+push_parts-requires g c n =
     let s = c.pop.new.self in
     let r = room _ _ _ _ (popped _ _ _ _ c.requires.moved.0 c.requires.standing.0 _ _ _ _ _ _ _ _ c.in-Some.ensures.held c.loop-i.invariant.state) c.index-moved-i.result c.index-standing-j.result c.index-moved-i.is c.index-standing-j.is c.if-parted.ensures.missed n in
     omega (arith, r, length-take-le s.len s.places.now s.within, c.in-Some.ensures.room, c.loop-i.invariant.room)

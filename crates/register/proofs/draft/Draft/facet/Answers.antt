@@ -1,14 +1,16 @@
-use Rattle.std.proofs.Common.{◌<◌, length, sym, refl, ap, ◌∙◌, arith, rules}
+use Rattle.std.proofs.Common.{◌<◌, ℕ, false, length, set, sym, refl, ap, subst, ◌∙◌, arith, rules}
 use borrow.Author.Rules.{scaled_Fits}
 use Rattle.std.proofs.lemmas.Bool.{ltb-true}
 use Rattle.book.specs.declared.call.Answer.TheVariants as answer
 use Rattle.book.specs.declared.item.Item.TheVariants as item
+use Rattle.book.specs.Facets.{facet_of}
 use Rattle.book.specs.Books.{added}
 use Rattle.book.proofs.Answering.{goes, other_draft, facet_4, facet_5, facet_yes}
 use Rattle.book.proofs.LedgerLaws.{here_parts, few_loose, written_length}
+use Rattle.register.specs.Tables.{Wrote}
 use Rattle.register.specs.Registers.{book_of}
 use Rattle.register.proofs.Fields.{sound, stored_place, length_items}
-use Rattle.register.proofs.Entering.{ghosts_facet, book_facet, grown_facet}
+use Rattle.register.proofs.Entering.{ghosts_facet, wrote_set, book_facet, grown_facet}
 use Rattle.register.proofs.draft.Draft.facet.Goals as goal
 
 pub returns-then-not-holds : goal.returns-then-not-holds
@@ -19,7 +21,7 @@ returns-in_default g c = record { said = facet_4 (book_of c.args.register.now) c
 
 pub returns-then-not-has_room : goal.returns-then-not-has_room
 returns-then-not-has_room g c = record {
-  said = facet_5 (book_of c.args.register.now) c.args.self.mark (sym c.holds.ensures ∙ c.if-not-holds.false) c.args.numbers c.in-Some.ensures.0 (sym c.has_room.ensures.room ∙ c.if-not-has-room.true);
+  said = facet_5 (book_of c.args.register.now) c.args.self.mark (sym c.holds.ensures ∙ c.if-not-holds.false) c.args.numbers c.in-Some.ensures.0 (sym c.has_room.ensures.room ∙ c.if-not-has_room.true);
   back = refl;
   table = refl;
   place = refl;
@@ -29,7 +31,7 @@ returns-then-not-has_room g c = record {
 
 -- there is a place for the facet
 free_place : (g : _) (c : goal.After-facet_hull g) → c.args.register.now.ledger.used < c.args.register.now.ledger.end
-free_place g c = ltb-true _ _ (sym c.has_room.ensures.below ∙ c.if-not-has-room.false)
+free_place g c = ltb-true _ _ (sym c.has_room.ensures.below ∙ c.if-not-has_room.false)
 
 pub offset_bounds-register-at : goal.offset_bounds-register-at
 offset_bounds-register-at g c =
@@ -50,7 +52,7 @@ pub invariant_of-register : goal.invariant_of-register
 unfolding book_of
 invariant_of-register g c =
     let r = c.args.register.now in
-    ghosts_facet r (here_parts r.ledger _ c.args.self.mark (sym c.holds.ensures ∙ c.if-not-holds.false)).0 (ltb-true _ _ (sym c.has_room.ensures.below ∙ c.if-not-has-room.false)) c.in-Some.facet _ refl refl refl
+    ghosts_facet r (here_parts r.ledger _ c.args.self.mark (sym c.holds.ensures ∙ c.if-not-holds.false)).0 (ltb-true _ _ (sym c.has_room.ensures.below ∙ c.if-not-has_room.false)) c.in-Some.facet _ refl refl refl
 
 pub returns : goal.returns
 unfolding book_of
@@ -60,10 +62,10 @@ returns g c =
     let is = c.in-Some.ensures.1 in
     let h = sym c.holds.ensures ∙ c.if-not-holds.false in
     let o = (here_parts r.ledger _ m h).0 in
-    let lt = ltb-true _ _ (sym c.has_room.ensures.below ∙ c.if-not-has-room.false) in
+    let lt = ltb-true _ _ (sym c.has_room.ensures.below ∙ c.if-not-has_room.false) in
     let placed : _ = record { item = item.Facet c.in-Some.facet; height = 0; tied = false; hull = c.facet_hull.result } in
     record {
-      said = goes (book_of r) _ _ _ (facet_yes (book_of r) m h c.args.numbers c.in-Some.ensures.0 (sym c.has_room.ensures.room ∙ c.if-not-has-room.false))
+      said = goes (book_of r) _ _ _ (facet_yes (book_of r) m h c.args.numbers c.in-Some.ensures.0 (sym c.has_room.ensures.room ∙ c.if-not-has_room.false))
           (ap answer.Entered (sym (written_length _ _ _ _ _ (sound r) (length_items r.table.now) o)))
           (book_facet r o lt c.in-Some.facet _ refl ∙ ap (λ q. added (book_of r) (item.Facet q)) is);
       back = refl;

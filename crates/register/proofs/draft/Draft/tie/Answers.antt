@@ -1,4 +1,4 @@
-use Rattle.std.proofs.Common.{◌≡◌, ℕ, false, List, ℤ, nat_abs, sym, refl, ap, ◌∙◌, subst, arith, w64, SFits, to_z, of_z, rules}
+use Rattle.std.proofs.Common.{◌≡◌, ℕ, false, List, ℤ, nat_abs, sym, refl, ap, ◌∙◌, subst, subst₂, arith, w64, SFits, to_z, of_z, rules}
 use Rattle.std.proofs.lemmas.Int.{to_z-of_z}
 use Rattle.std.proofs.lemmas.Bool.{ltb-true}
 use Rattle.book.specs.declared.call.Answer.TheVariants as answer
@@ -7,10 +7,10 @@ use Rattle.book.specs.Books.{joins, added}
 use Rattle.book.proofs.Answering.{goes, other_draft, tie_6}
 use Rattle.book.proofs.LedgerLaws.{here_parts, page_some, written_length}
 use Rattle.book.specs.declared.item.Item.{Item}
-use Rattle.register.specs.Tables.{items_of, FreeParts}
+use Rattle.register.specs.Tables.{items_of, FreeParts, Wrote}
 use Rattle.register.specs.Registers.{book_of}
-use Rattle.register.proofs.Fields.{sound, length_items}
-use Rattle.register.proofs.Entering.{page_items, page_heights, page_tieds, page_sane, page_count, page_small, i_in, k_in, i_small, k_small, too_high, table_full, accepted, may_join, hull_grown, tie_stands, book_after, grown_after}
+use Rattle.register.proofs.Fields.{sound, stored_place, length_items}
+use Rattle.register.proofs.Entering.{page_items, page_heights, page_tieds, page_sane, page_count, page_small, i_in, k_in, i_small, k_small, too_high, table_full, accepted, may_join, hull_grown, wrote_joined, tie_stands, book_after, grown_after}
 use Rattle.register.proofs.draft.Draft.tie.Goals as goal
 
 pub returns-then-not-holds : goal.returns-then-not-holds
@@ -63,7 +63,7 @@ pub returns-then-not-has_room : goal.returns-then-not-has_room
 returns-then-not-has_room g c =
     let f = parts _ _ _ _ _ c.ranges.x c.ranges.y c.in-Some.ensures in
     record {
-      said = table_full c.args.register.now _ c.page-page.ensures _ _ _ _ f _ c.tie_height-height.ensures c.args.self.mark (sym c.holds.ensures ∙ c.if-not-holds.false) c.if-height-gt-HEIGHT.false (sym c.has_room.ensures.room ∙ c.if-not-has-room.true);
+      said = table_full c.args.register.now _ c.page-page.ensures _ _ _ _ f _ c.tie_height-height.ensures c.args.self.mark (sym c.holds.ensures ∙ c.if-not-holds.false) c.if-height-gt-HEIGHT.false (sym c.has_room.ensures.room ∙ c.if-not-has_room.true);
       back = refl;
       table = refl;
       place = refl;
@@ -97,7 +97,7 @@ join-requires g c =
     let r = c.args.register.now in
     let h = sym c.holds.ensures ∙ c.if-not-holds.false in
     may_join r _ c.page-page.ensures _ _ _ _ c.in-Some.ensures _ c.tie_height-height.ensures _ (here_parts r.ledger _ c.args.self.mark h).0
-    (ltb-true _ _ (sym c.has_room.ensures.below ∙ c.if-not-has-room.false)) c.if-height-gt-HEIGHT.false refl refl refl
+    (ltb-true _ _ (sym c.has_room.ensures.below ∙ c.if-not-has_room.false)) c.if-height-gt-HEIGHT.false refl refl refl
 
 pub overflow_cast-result : goal.overflow_cast-result
 overflow_cast-result g c = let n = page_small c.args.register.now _ c.page-page.ensures in search rules
@@ -116,12 +116,12 @@ returns g c =
     let low = c.if-height-gt-HEIGHT.false in
     let k = c.tie_height-height.ensures in
     let tie : _ = record { item = item.Tie a b; height = c.tie_height-height.result; tied = false; hull = c.over_item.result } in
-    let j = may_join r _ e _ _ a b f _ k tie o (ltb-true _ _ (sym c.has_room.ensures.below ∙ c.if-not-has-room.false)) low refl refl refl in
+    let j = may_join r _ e _ _ a b f _ k tie o (ltb-true _ _ (sym c.has_room.ensures.below ∙ c.if-not-has_room.false)) low refl refl refl in
     let t = c.join.new.self.table.now in
     let w = c.join.ensures.table in
     let is : item.Tie a b ≡ item.Tie (nat_abs c.args.x) (nat_abs c.args.y) = sym (ap (λ (z : ℤ). item.Tie (nat_abs z) (nat_abs c.args.y)) f.x_is ∙ ap (λ (z : ℤ). item.Tie a (nat_abs z)) f.y_is) in
     record {
-      said = goes (book_of r) _ _ _ (accepted r _ e _ _ _ _ f _ k m h low (sym c.has_room.ensures.room ∙ c.if-not-has-room.false))
+      said = goes (book_of r) _ _ _ (accepted r _ e _ _ _ _ f _ k m h low (sym c.has_room.ensures.room ∙ c.if-not-has_room.false))
           (ap answer.Entered (page_count r _ e ∙ sym (written_length _ _ _ _ _ (sound r) (length_items r.table.now) o)))
           (book_after r a b tie j t w _ c.join.ensures.ledger ∙ ap (added (book_of r)) is);
       back = refl;

@@ -51,7 +51,7 @@ walk-requires g c =
     let a = shelved c.args.self.now c.args.moved ym in
     let b = shelved c.args.self.now c.args.standing ys in
     record {
-      moved = (rw em (ap complete a.items-of ∙ a.whole), rw em a.few);
+      moved = (rw em (ap complete a.object_items ∙ a.whole), rw em a.few);
       standing = (rw es (ap complete b.object_items ∙ b.whole), rw es b.few);
     }
 
