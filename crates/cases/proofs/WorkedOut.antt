@@ -5,7 +5,7 @@ use Rattle.integers.specs.Rounding.{div_up}
 use Rattle.integers.proofs.Roots.{root_is}
 use Rattle.hull.specs.Directions.{direction}
 use Rattle.hull.specs.Faces.{place}
-use Rattle.cases.specs.Worked.{corner, ball_with, lifted, Lifted, Worked}
+use Rattle.cases.specs.Worked.{Lifts, corner, ball_with, lifted, Lifted, Worked}
 use Rattle.pairs.specs.Axes.{axes_of_lem, as_axis, turned}
 use Rattle.pairs.specs.Directions.{separating, moved_direction, standing_direction, opposite}
 use Rattle.walks.specs.Walks.{apart, facets}
@@ -56,6 +56,10 @@ worked = record {
   reach_20480 = ap₂ (λ (r q : ℕ). div_up (pos 0 +ℤ pos (r * q)) 256) radius_5 root_of_square;
   radius_2 = ap₂ (λ (m n : ℕ). max (max 0 m) n) root_2 root_0;
   axis_entries = (refl, refl);
+}
+
+pub lifts : Lifts
+lifts = record {
   lift_28672 = lift_28672;
   lift_32768 = lift_32768;
   lift_53248 = lift_53248;

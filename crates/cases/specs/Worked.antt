@@ -57,6 +57,7 @@ lifted t h = record {
 abbrev pub Lifted : (t : ℕ) → T (nat_le t shift_limit) → List (ℕ × ℕ) → Type 0
 Lifted t h pairs = Walk (PartedItems box_begun box_grown box_reach (lifted t h)) (leaf 0 (flat (pos 0) tt)) (leaf 0 (flat (pos 9) tt)) pairs 1
 
+-- the worked cases of hulls and axes
 pub record Worked : Type 0 where
   -- weight 100 gives n = 2 at g = 5, and n = 1 at g = -5
   pub weight_100 : (rounded 100 (pos 5) ≡ 2) × (rounded 100 (negsuc 4) ≡ 1)
@@ -73,6 +74,9 @@ pub record Worked : Type 0 where
   pub radius_2 : (ball_with (corner (pos 1) (pos 1) (pos 0) tt tt tt)).radius ≡ 2
   -- an axis entry from -1 is -1, and from 4,095 it is 0
   pub axis_entries : (div_down (negsuc 0) axis_unit ≡ negsuc 0) × (div_down (pos 4095) axis_unit ≡ pos 0)
+
+-- the worked case of a job
+pub record Lifts : Type 0 where
   -- the whole case: too low, within reach, and too high; and a lift with which the pair is still listed
   pub lift_28672 : Lifted 28672 tt []
   pub lift_32768 : Lifted 32768 tt ((0, 0) ∷ [])

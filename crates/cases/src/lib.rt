@@ -2,7 +2,7 @@
 #![tactic(auto)]
 
 ghost use Rattle.std.specs.Prelude.{◌≡◌, true, pos, Some};
-ghost use Rattle.cases.specs.Worked.{Worked};
+ghost use Rattle.cases.specs.Worked.{Worked, Lifts};
 
 use ball::BallHull;
 use hull::{Corner, Direction, Hull};
@@ -20,6 +20,7 @@ fn ball_reach() -> Option<i64>
 // Whether the code gives what the cases say.
 pub fn worked_cases() -> bool
     ensures worked { Worked }
+    ensures lifts { Lifts }
     ensures run { result ≡ true }
 {
     ball_reach() == Some(20480)
