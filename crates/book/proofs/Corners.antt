@@ -1,6 +1,6 @@
 -- Corners and the numbers that they are made of.
-use Rattle.std.proofs.Common.{◌≡◌, ℕ, ◌≤◌, Bool, true, false, cond, ◌&&◌, leb, ℤ, nat_abs, sym, refl, ap, ◌∙◌, subst, ⊎_elim}
-use Rattle.std.proofs.lemmas.Bool.{cases_Bool, and_from, and_left, and_right, and_parts, le-leb, leb-true, cond-true}
+use Rattle.std.proofs.Common.{◌≡◌, ◌≤◌, true, false, ◌&&◌, ℤ, nat_abs, sym, ◌∙◌, subst, ⊎_elim}
+use Rattle.std.proofs.lemmas.Bool.{cases_Bool, and_from, and_parts, le-leb, leb-true, cond-true}
 use Rattle.hull.specs.Units.{corner_limit, Within}
 use Rattle.hull.specs.declared.corner.Corner.{Corner}
 use Rattle.hull.proofs.Same.{same_made}

@@ -1,19 +1,17 @@
 -- Which items are tied, and one more item on a page.
-use Rattle.std.proofs.Common.{◌≡◌, ℕ, zero, suc, ◌+◌, ◌-◌, ◌<◌, ◌≤◌, Bool, true, false, cond, not, ◌&&◌, ◌||◌, eqb, ◌⊎◌, List, [], ◌∷◌, ◌++◌, map, length, get_or, take, set, sum_by, count_by, sym, refl, ap, ◌∙◌, subst, inl, inr, ⊎_elim, arith}
-use Rattle.std.specs.List.{range_with_len}
+use Rattle.std.proofs.Common.{◌≡◌, ℕ, zero, suc, ◌+◌, ◌<◌, ◌≤◌, Bool, true, false, cond, not, ◌||◌, eqb, List, [], ◌∷◌, ◌++◌, length, get_or, take, set, sum_by, sym, refl, ap, ◌∙◌, subst, ⊎_elim, arith}
 use Rattle.std.proofs.lemmas.List.{length_push, length-take-le, same_lists, get_or_append_left, get_or_push, get_or-take, get_or-set_same, get_or-set_other, length-set}
 use Rattle.std.proofs.lemmas.List.Sums.{sum_by_push, sum_by-set, count_by-le-length}
 use Rattle.std.proofs.lemmas.List.FromFn.{length-map-range_with_len, get_or-map-range_with_len}
-use Rattle.std.proofs.lemmas.Bool.{cases_lt, cases_eq, cases_Bool, cases_order, or_cases, or_from, or_left, or_right, and_from, and_parts, eq-eqb, ne_eqb, eqb-true, le-leb, true≢false, false≢true, both_ways}
+use Rattle.std.proofs.lemmas.Bool.{cases_lt, cases_eq, cases_Bool, cases_order, or_cases, or_from, or_left, or_right, eq-eqb, ne_eqb, eqb-true, false≢true, both_ways}
 use Rattle.book.specs.declared.item.Facet.{Facet}
 use Rattle.book.specs.declared.item.Item.{Item}
 use Rattle.book.specs.declared.item.Item.TheVariants as item
-use Rattle.book.specs.Limits.{height_limit}
-use Rattle.book.specs.Trees.{trees, tree_of, height, height_at, ties, tied, flags, untied, item_at, Part, Under, itself, above, Whole}
-use Rattle.book.specs.Books.{joinable, low, tie_height_lem}
-use Rattle.book.specs.Pages.{allowed, sane, complete, all_complete, heights}
+use Rattle.book.specs.Trees.{trees, tree_of, height, height_at, ties, tied, flags, untied, item_at, Part}
+use Rattle.book.specs.Books.{tie_height_lem}
+use Rattle.book.specs.Pages.{allowed, sane}
 use Rattle.book.specs.Ledgers.{Written}
-use Rattle.book.proofs.Forest.{Joins, joins_parts, tie_allowed, sane_at, sane_push, heights_push, low_at}
+use Rattle.book.proofs.Forest.{Joins, tie_allowed, sane_at, sane_push, heights_push}
 
 pub tied_push : (p : List Item) (e : Item) (i : ℕ) → tied (p ++ e ∷ []) i ≡ (tied p i || ties e i)
 unfolding tied

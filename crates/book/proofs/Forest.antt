@@ -1,13 +1,13 @@
 -- The trees of a page, read off its items, and pages that come of accepted calls.
-use Rattle.std.proofs.Common.{◌≡◌, ℕ, zero, suc, ◌+◌, ◌-◌, ◌<◌, ◌≤◌, max, Bool, true, false, cond, not, ◌&&◌, ◌||◌, eqb, ltb, leb, ◌⊎◌, List, [], ◌∷◌, ◌++◌, map, length, get_or, take, drop, fold, sym, refl, ap, ◌∙◌, subst, inl, inr, ⊎_elim, zero-le, arith}
-use Rattle.std.proofs.lemmas.List.{length_push, length-take-le, length-map, map_push, get_or_append_left, get_or_push, get_or-take, take-append-drop, drop_more, append_assoc, append-nil}
+use Rattle.std.proofs.Common.{◌≡◌, ℕ, zero, suc, ◌+◌, ◌<◌, ◌≤◌, true, false, not, ◌&&◌, eqb, ltb, List, [], ◌∷◌, ◌++◌, length, get_or, take, drop, fold, sym, refl, ap, ◌∙◌, subst, zero-le, arith}
+use Rattle.std.proofs.lemmas.List.{length_push, length-take-le, map_push, get_or_append_left, get_or_push, take-append-drop, drop_more, append_assoc, append-nil}
 use Rattle.std.proofs.lemmas.List.Sums.{fold_push}
-use Rattle.std.proofs.lemmas.Bool.{and_parts, and_from, or_cases, or_left, or_right, ltb-true, leb-true, eqb-true, eqb-false, not-true, not_from_false, lt-ltb, ne_eqb, both_ways, cases_Bool, cases_order, true≢false, false≢true}
+use Rattle.std.proofs.lemmas.Bool.{and_parts, and_from, ltb-true, leb-true, eqb-false, not-true, not_from_false, lt-ltb, ne_eqb}
 use Rattle.book.specs.declared.item.Facet.{Facet}
 use Rattle.book.specs.declared.item.Item.{Item}
 use Rattle.book.specs.declared.item.Item.TheVariants as item
 use Rattle.book.specs.Limits.{height_limit}
-use Rattle.book.specs.Trees.{Tree, leaf, node, height, trees, tree_of, tree, no_tree, height_at, ties, tied, item_at, Part}
+use Rattle.book.specs.Trees.{Tree, leaf, node, height, trees, tree_of, tree, no_tree, height_at, tied, item_at}
 use Rattle.book.specs.Books.{free, joinable, low, tie_height_lem}
 use Rattle.book.specs.Pages.{allowed, goes_on, sane, heights}
 

@@ -1,6 +1,6 @@
 -- The questions of a tie, at any two numbers.
-use Rattle.std.proofs.Common.{◌≡◌, ℕ, ◌<◌, ◌≤◌, Bool, true, false, not, ◌&&◌, eqb, ltb, ◌⊎◌, List, length, ℤ, pos, negsuc, nat_abs, sym, refl, ap, ◌∙◌, subst, inl, inr, ⊎_elim, arith}
-use Rattle.std.proofs.lemmas.Bool.{and_from, and_left, and_right, not_from_true, le-ltb, eq-eqb}
+use Rattle.std.proofs.Common.{◌≡◌, ℕ, ◌≤◌, true, false, not, eqb, ltb, ◌⊎◌, List, length, ℤ, pos, negsuc, nat_abs, refl, inl, ⊎_elim}
+use Rattle.std.proofs.lemmas.Bool.{and_left, and_right, not_from_true, le-ltb, eq-eqb}
 use Rattle.book.specs.declared.item.Item.{Item}
 use Rattle.book.specs.Trees.{tied}
 use Rattle.book.specs.Books.{free, joinable, counts, joins}

@@ -1,5 +1,5 @@
 -- A ledger over the items of a table: its book, and what always holds, after each kind of change.
-use Rattle.std.proofs.Common.{◌≡◌, ℕ, ◌+◌, ◌-◌, ◌<◌, ◌≤◌, Bool, true, false, cond, ◌&&◌, eqb, ltb, ◌⊎◌, List, [], ◌∷◌, ◌++◌, length, get_or, set, is_some, Some, None, sum_by, Option, sym, refl, ap, ◌∙◌, subst, inl, inr, ⊎_elim, arith}
+use Rattle.std.proofs.Common.{◌≡◌, ℕ, ◌+◌, ◌-◌, ◌<◌, ◌≤◌, Bool, true, false, cond, ◌&&◌, eqb, ltb, List, [], ◌∷◌, ◌++◌, length, get_or, set, is_some, Some, None, sum_by, Option, sym, refl, ap, ◌∙◌, ⊎_elim, arith}
 use Rattle.std.proofs.lemmas.List.{length-set, get_or-set_same, get_or-set_other}
 use Rattle.std.proofs.lemmas.List.Sums.{sum_by_push}
 use Rattle.std.proofs.lemmas.Bool.{cases_lt, cases_Bool, and_parts, both_ways, false≢true, lt-ltb, le-ltb, eqb-true}
@@ -13,8 +13,8 @@ use Rattle.book.specs.Trees.{trees, flags, untied, Whole}
 use Rattle.book.specs.Books.{Book, written, stored, here, room, turned, added, shelved, tie_height_lem}
 use Rattle.book.specs.Pages.{allowed, goes_on, sane, all_complete, heights}
 use Rattle.book.specs.Ledgers.{slice, drafted, objects, book_over, repaged, Placed, Counted, Kept, Written, Drafted}
-use Rattle.book.proofs.Slices.{slice_push, slice_kept, slice_set, slice_none, length_slice, objects_kept, objects_push, length_objects}
-use Rattle.book.proofs.Forest.{Joins, tie_allowed}
+use Rattle.book.proofs.Slices.{slice_push, slice_set, slice_none, length_slice, objects_kept, objects_push, length_objects}
+use Rattle.book.proofs.Forest.{tie_allowed}
 use Rattle.book.proofs.Flags.{written_facet, written_tie, untied_le, untied_two}
 use Rattle.book.proofs.Wholes.{complete_from, all_complete_push, all_complete_at, whole_from}
 

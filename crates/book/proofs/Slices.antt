@@ -1,7 +1,7 @@
 -- Parts of a list, and what a write leaves of them.
 use Rattle.std.proofs.Common.{◌≡◌, ℕ, suc, ◌+◌, ◌-◌, ◌<◌, ◌≤◌, List, [], ◌∷◌, ◌++◌, map, length, get_or, take, drop, set, sym, refl, ap, ◌∙◌, ⊎_elim, arith}
 use lib.Seq.{take-set-lt}
-use Rattle.std.proofs.lemmas.List.{drop-set-add, take_more_set, take-set-le, length-drop, length-take, length-set, length-map, take-map, drop-map, get_or-take, get_or-map, map_push}
+use Rattle.std.proofs.lemmas.List.{drop-set-add, take_more_set, take-set-le, length-drop, length-take, length-map, take-map, drop-map, get_or-take, get_or-map, map_push}
 use Rattle.std.proofs.lemmas.Bool.{cases_lt}
 use Rattle.book.specs.declared.item.Item.{Item}
 use Rattle.book.specs.declared.ledger.Span.{Span}

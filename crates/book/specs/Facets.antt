@@ -1,6 +1,6 @@
 -- A facet from nine numbers.
-use Rattle.std.specs.Prelude.{◌≡◌, ℕ, ◌+◌, ◌≤◌, Bool, true, false, cond, ◌&&◌, List, [], ◌∷◌, ℤ, pos, nat_le, slice_index_or, unsigned_abs, refl}
-use Rattle.std.proofs.Common.{subst, sym, zero-le, lit≤}
+use Rattle.std.specs.Prelude.{ℕ, ◌+◌, ◌≤◌, Bool, cond, ◌&&◌, List, [], ◌∷◌, ℤ, pos, nat_le, slice_index_or, unsigned_abs}
+use Rattle.std.proofs.Common.{zero-le}
 use Rattle.std.proofs.lemmas.Bool.{cond_both, leb-true}
 use Rattle.hull.specs.Units.{corner_limit}
 use Rattle.hull.specs.declared.corner.Corner.{Corner}

@@ -1,5 +1,5 @@
 -- The book that a ledger keeps over the items of a table, and what always holds of the two.
-use Rattle.std.specs.Prelude.{◌≡◌, ℕ, ◌+◌, ◌-◌, ◌<◌, ◌≤◌, Bool, true, false, cond, List, [], ◌∷◌, map, length, take, Some, None, sum_by, slice_index_or, slice_range}
+use Rattle.std.specs.Prelude.{◌≡◌, ℕ, ◌+◌, ◌-◌, ◌<◌, ◌≤◌, Bool, true, false, cond, List, map, length, take, Some, None, sum_by, slice_index_or, slice_range}
 use Rattle.book.specs.declared.item.Item.{Item}
 use Rattle.book.specs.declared.ledger.Span.{Span}
 use Rattle.book.specs.declared.ledger.Ledger.{Ledger}

@@ -1,8 +1,8 @@
 -- Pages that come of accepted calls.
-use Rattle.std.specs.Prelude.{◌≡◌, ℕ, Bool, true, ◌&&◌, List, [], ◌∷◌, ◌++◌, map, ◌==◌}
+use Rattle.std.specs.Prelude.{ℕ, Bool, true, ◌&&◌, List, [], ◌∷◌, ◌++◌, map, ◌==◌}
 use Rattle.book.specs.declared.item.Item.{Item}
 use Rattle.book.specs.declared.item.Item.TheVariants as item
-use Rattle.book.specs.Trees.{height, trees, flags, untied}
+use Rattle.book.specs.Trees.{height, trees, untied}
 use Rattle.book.specs.Books.{joinable, low}
 
 -- may the item come after these?

@@ -1,7 +1,7 @@
 -- The list of faces, by tests that are computed at all entries -1, 0 and 1.
-use Rattle.std.proofs.Common.{◌≡◌, ℕ, zero, suc, ◌+◌, ◌*◌, ◌<◌, ◌≤◌, Bool, true, false, ◌&&◌, ◌||◌, T, eqb, ltb, List, [], ◌∷◌, get_or, ℤ, pos, negsuc, ◌+ℤ◌, nat_abs, sym, refl, subst, arith, eqb→eq, ltb→lt}
+use Rattle.std.proofs.Common.{◌≡◌, ℕ, zero, suc, ◌+◌, ◌*◌, ◌≤◌, Bool, true, false, ◌&&◌, T, eqb, List, [], ◌∷◌, get_or, ℤ, pos, negsuc, ◌+ℤ◌, nat_abs, arith, eqb→eq}
 use Rattle.hull.specs.declared.face.Face.{Face}
-use Rattle.hull.specs.Faces.{face, faces, no_face, rank, same, place, Small}
+use Rattle.hull.specs.Faces.{face, place, Small}
 
 pub left : (a b : Bool) → T (a && b) → T a
 left true b t = tt

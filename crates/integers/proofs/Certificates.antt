@@ -2,7 +2,7 @@
 -- and h says that s is not negative; h is put together by `⊞`, `⊠`, `square` and `nat` from facts 0 ≤ p.
 use Rattle.std.proofs.Common.{◌≡◌, ℕ, suc, ◌*◌, List, ℤ, pos, negsuc, ◌+ℤ◌, ◌-ℤ◌, ◌*ℤ◌, ◌≤ℤ◌, sym, subst}
 use Rattle.integers.proofs.Order.{le_of_sub, sub_nonneg, add_nonneg, mul_nonneg, nat_nonneg}
-use Rattle.integers.proofs.Ring.{Expr, ◌⊕◌, ◌⊖◌, ⊝, eval, norm, solve}
+use Rattle.integers.proofs.Ring.{Expr, ◌⊖◌, eval, norm, solve}
 
 infixl 6 ◌⊞◌
 infixl 7 ◌⊠◌

@@ -1,7 +1,7 @@
 -- The solver at work.
-use Rattle.std.proofs.Common.{◌≡◌, ℕ, List, [], ◌∷◌, ℤ, pos, negsuc, ◌+ℤ◌, ◌-ℤ◌, ◌*ℤ◌, neg_ℤ, ◌≤ℤ◌, refl}
-use Rattle.integers.proofs.Ring.{Expr, con, var, ◌⊕◌, ◌⊖◌, ◌⊗◌, ⊝, #, solve}
-use Rattle.integers.proofs.Certificates.{le_by, square, ◌⊞◌, ◌⊠◌}
+use Rattle.std.proofs.Common.{◌≡◌, [], ◌∷◌, ℤ, pos, ◌+ℤ◌, ◌-ℤ◌, ◌*ℤ◌, ◌≤ℤ◌, refl}
+use Rattle.integers.proofs.Ring.{Expr, var, ◌⊕◌, ◌⊖◌, ◌⊗◌, #, solve}
+use Rattle.integers.proofs.Certificates.{le_by, square, ◌⊞◌}
 
 small : (a b c d : ℤ) → (a +ℤ b) *ℤ (c -ℤ d) ≡ a *ℤ c -ℤ a *ℤ d +ℤ b *ℤ c -ℤ b *ℤ d
 small a b c d =

@@ -1,6 +1,5 @@
 -- A number that is small enough fits its width, and is read back from its bits.
 use Rattle.std.proofs.Common.{◌≡◌, ℕ, ◌+◌, ◌^◌, ◌<◌, ◌≤◌, ℤ, pos, negsuc, ◌+ℤ◌, nat_abs, ◌∙◌, ap₂, lt_of_le_of_lt, arith, SFits, to_z, of_z}
-use borrow.Author.Differences.{ints}
 use mir.Syntax.{Width}
 use mir.Val.{hbits}
 use Rattle.std.proofs.lemmas.Int.{to_z-of_z}

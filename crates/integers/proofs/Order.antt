@@ -1,6 +1,6 @@
 -- The order of the integers.
-use Rattle.std.proofs.Common.{◌≡◌, ℕ, zero, suc, ◌+◌, ◌*◌, ◌≤◌, Bool, true, false, ℤ, pos, negsuc, ◌+ℤ◌, ◌-ℤ◌, ◌*ℤ◌, neg_ℤ, nat_abs, ◌≤ℤ◌, sym, refl, ap, ◌∙◌, subst, zero-le, mul-le-mul, arith, le→leb}
-use lib.Signed.{le_z, ≤ℤ_refl}
+use Rattle.std.proofs.Common.{◌≡◌, ℕ, suc, ◌+◌, ◌*◌, ◌≤◌, Bool, true, false, ℤ, pos, negsuc, ◌+ℤ◌, ◌-ℤ◌, ◌*ℤ◌, neg_ℤ, nat_abs, ◌≤ℤ◌, sym, refl, subst, zero-le, mul-le-mul, arith, le→leb}
+use lib.Signed.{le_z}
 use borrow.Author.Differences.{ints}
 use Rattle.integers.proofs.Laws as L
 

@@ -1,5 +1,5 @@
 -- The root that is rounded up is the least number whose square is enough.
-use Rattle.std.proofs.Common.{◌≡◌, ℕ, zero, suc, ◌+◌, ◌-◌, ◌*◌, ◌<◌, ◌≤◌, Bool, true, false, cond, not, T, leb, sym, refl, subst, zero-le, le_trans, le_refl, lt_of_lt_of_le, lt_of_le_of_lt, lt_irrefl, suc-mul, mul-le-mul, mul-suc, arith, leb→le}
+use Rattle.std.proofs.Common.{◌≡◌, ℕ, zero, suc, ◌-◌, ◌*◌, ◌<◌, ◌≤◌, Bool, true, false, cond, not, T, leb, sym, refl, subst, zero-le, le_trans, lt_of_le_of_lt, lt_irrefl, suc-mul, mul-le-mul, mul-suc, arith, leb→le}
 use lib.Dec.{nleb→lt}
 use Rattle.integers.specs.Roots.{root_up}
 

@@ -1,8 +1,8 @@
 -- Rounded quotients, from both sides.
-use Rattle.std.proofs.Common.{◌≡◌, ℕ, suc, ◌+◌, ◌-◌, ◌*◌, ◌/◌, ◌%◌, ◌<◌, ◌≤◌, ℤ, pos, negsuc, ◌+ℤ◌, ◌*ℤ◌, neg_ℤ, nat_abs, ◌≤ℤ◌, sym, subst, mod-lt, arith}
+use Rattle.std.proofs.Common.{◌≡◌, ℕ, suc, ◌+◌, ◌-◌, ◌*◌, ◌/◌, ◌%◌, ◌<◌, ℤ, pos, negsuc, ◌+ℤ◌, ◌*ℤ◌, neg_ℤ, ◌≤ℤ◌, sym, subst, mod-lt, arith}
 use native.Mathlib.Nat.{div-add-mod}
 use borrow.Author.Differences.{ints}
-use Rattle.integers.specs.Rounding.{div_up, div_down}
+use Rattle.integers.specs.Rounding.{div_up}
 use Rattle.integers.proofs.Laws.{mul_neg}
 
 -- over bare numbers: p is a product of a divisor n and a quotient, and r the rest

@@ -1,8 +1,8 @@
 -- What a hull that is a ball needs of squares and roots.
-use Rattle.std.proofs.Common.{◌≡◌, ℕ, ◌+◌, ◌*◌, ◌<◌, ◌≤◌, List, [], ◌∷◌, ℤ, pos, negsuc, ◌+ℤ◌, ◌-ℤ◌, ◌*ℤ◌, neg_ℤ, nat_abs, ◌≤ℤ◌, sym, refl, subst, ap₂, arith}
+use Rattle.std.proofs.Common.{◌≡◌, ℕ, ◌+◌, [], ◌∷◌, ℤ, pos, negsuc, ◌+ℤ◌, ◌-ℤ◌, ◌*ℤ◌, nat_abs, ◌≤ℤ◌, sym, refl, subst, ap₂, arith}
 use borrow.Author.Differences.{ints}
 use Rattle.integers.proofs.Order.{le_trans, le_or_lt}
-use Rattle.integers.proofs.Ring.{Expr, con, var, ◌⊕◌, ◌⊖◌, ◌⊗◌, ⊝, #, solve}
+use Rattle.integers.proofs.Ring.{Expr, var, ◌⊕◌, ◌⊖◌, ◌⊗◌, #}
 use Rattle.integers.proofs.Certificates.{le_by, gap, nat, square, ◌⊞◌, ◌⊠◌}
 
 abbrev sq : Expr → Expr

@@ -1,5 +1,5 @@
 -- The products along an axis, as identities.
-use Rattle.std.proofs.Common.{◌≡◌, ◌+◌, ◌*◌, [], ◌∷◌, ℤ, pos, ◌+ℤ◌, ◌*ℤ◌, neg_ℤ, refl, ap, ◌∙◌, ap₂, arith}
+use Rattle.std.proofs.Common.{◌≡◌, ◌+◌, [], ◌∷◌, ℤ, pos, ◌+ℤ◌, ◌*ℤ◌, neg_ℤ, refl, ap, ◌∙◌, ap₂, arith}
 use Rattle.integers.proofs.Order.{nat_abs_neg, nat_abs_mul}
 use Rattle.integers.proofs.Ring.{Expr, var, ◌⊕◌, ◌⊗◌, ⊝, #, solve}
 use Rattle.hull.specs.declared.corner.Corner.{Corner}

@@ -1,5 +1,5 @@
 -- A direction as weights on the faces of a box, and on all 26.
-use Rattle.std.proofs.Common.{◌≡◌, ℕ, zero, suc, ◌+◌, ◌-◌, ◌*◌, ◌<◌, ◌≤◌, Bool, true, false, cond, ◌&&◌, ◌||◌, T, eqb, ltb, leb, List, [], ◌∷◌, get_or, ℤ, pos, negsuc, ◌+ℤ◌, ◌-ℤ◌, ◌*ℤ◌, neg_ℤ, nat_abs, sym, refl, ap, ◌∙◌, subst, ap₂, arith, lit<, lit≤, eqb→eq, ltb→lt}
+use Rattle.std.proofs.Common.{◌≡◌, ℕ, suc, ◌+◌, ◌-◌, ◌*◌, ◌<◌, ◌≤◌, Bool, true, false, cond, ◌&&◌, ◌||◌, T, eqb, ltb, leb, List, [], ◌∷◌, get_or, ℤ, pos, negsuc, ◌+ℤ◌, ◌-ℤ◌, ◌*ℤ◌, neg_ℤ, nat_abs, sym, refl, ap, ◌∙◌, subst, ap₂, arith, lit<, lit≤, eqb→eq, ltb→lt}
 use native.Mathlib.Nat as NatL
 use borrow.Author.Differences.{ints}
 use Rattle.std.specs.List.{AllByRecursion as All}
@@ -12,7 +12,7 @@ use Rattle.hull.specs.declared.face.Weight.{Weight}
 use Rattle.hull.specs.Faces.{face, faces, behind, joined, no_face, place, rank, same, Small}
 use Rattle.hull.specs.Weights.{weight, entry, box_weights_lem, insert, sorted, stacked_from, stacked, many_weights_lem, total, Falls, Ranked}
 use Rattle.hull.specs.Measures.{along, size}
-use Rattle.hull.proofs.FaceTable.{all_faces, at_face, left, right}
+use Rattle.hull.proofs.FaceTable.{at_face, left, right}
 use Rattle.hull.proofs.WeightLaws.{size_of, along_axis, total_sorted, ranked, small_edge, small_tip}
 use Rattle.support.specs.Supports.{product, sum_of}
 use Rattle.support.proofs.Sums.{sum_sorted}

@@ -1,14 +1,13 @@
 -- Equal absolute values may change places.
-use Rattle.std.proofs.Common.{◌≡◌, ℕ, ◌+◌, ◌-◌, ◌<◌, ◌≤◌, Bool, true, false, cond, not, T, leb, List, [], ◌∷◌, ℤ, pos, negsuc, ◌+ℤ◌, sym, refl, ap, ◌∙◌, subst, ap₂, arith, le→leb, leb→le}
-use borrow.Author.Differences.{ints}
+use Rattle.std.proofs.Common.{◌≡◌, ℕ, ◌-◌, ◌<◌, ◌≤◌, Bool, true, false, cond, not, T, leb, List, [], ◌∷◌, ℤ, pos, negsuc, ◌+ℤ◌, sym, refl, ap, ◌∙◌, subst, ap₂, arith, le→leb, leb→le}
 use lib.Dec.{nleb→lt}
-use lib.IntN.{zero-*ℤ, +ℤ_idl, +ℤ_comm, +ℤ_assoc}
+use lib.IntN.{zero-*ℤ, +ℤ_comm, +ℤ_assoc}
 use Rattle.std.specs.List.{AllByRecursion as All}
 use Rattle.hull.specs.declared.face.Face.{Face}
 use Rattle.hull.specs.declared.face.Weight.{Weight}
 use Rattle.hull.specs.Faces.{face, joined}
 use Rattle.hull.specs.Weights.{entry, insert, sorted, stacked, many_weights_lem, Falls}
-use Rattle.support.specs.Supports.{share, support, sum_of, reach_on}
+use Rattle.support.specs.Supports.{share, support, reach_on}
 use Rattle.support.specs.Exchange.{orders, InAnyOrder}
 
 -- ---- a test of an order, and what it says

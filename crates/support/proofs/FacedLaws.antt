@@ -1,5 +1,5 @@
 -- The laws of a hull with faces, for any direction that is written as weights on them.
-use Rattle.std.proofs.Common.{◌≡◌, ℕ, ◌+◌, ◌-◌, ◌*◌, ◌<◌, ◌≤◌, List, [], ◌∷◌, map, length, get_or, take, ℤ, pos, ◌+ℤ◌, ◌*ℤ◌, nat_abs, ◌≤ℤ◌, sym, refl, ◌∙◌, subst, arith, lit≤}
+use Rattle.std.proofs.Common.{◌≡◌, ℕ, ◌+◌, ◌-◌, ◌*◌, ◌<◌, ◌≤◌, List, [], ◌∷◌, length, get_or, take, ℤ, pos, ◌+ℤ◌, ◌*ℤ◌, nat_abs, ◌≤ℤ◌, sym, refl, ◌∙◌, subst, arith}
 use native.Mathlib.Nat as NatL
 use borrow.Author.Differences.{ints}
 use Rattle.std.specs.List.{ContainsAt as Has, AllByRecursion as All}
@@ -11,7 +11,7 @@ use Rattle.hull.specs.declared.corner.Corner.{Corner}
 use Rattle.hull.specs.declared.direction.Direction.{Direction}
 use Rattle.hull.specs.declared.face.Face.{Face}
 use Rattle.hull.specs.declared.face.Weight.{Weight}
-use Rattle.hull.specs.Units.{reach_unit, support_unit, weight_unit, support_limit, slack, rounding}
+use Rattle.hull.specs.Units.{reach_unit, support_unit, support_limit, slack, rounding}
 use Rattle.hull.specs.Faces.{faces, place, no_face, rank}
 use Rattle.hull.specs.Weights.{total}
 use Rattle.hull.specs.Measures.{along, size, Near, Spread, Covers, Tight, Rounds}

@@ -1,12 +1,12 @@
 -- One face's share of a reach, with its rounding.
-use Rattle.std.proofs.Common.{◌≡◌, ℕ, suc, ◌+◌, ◌-◌, ◌*◌, ◌/◌, ◌<◌, ◌≤◌, [], ◌∷◌, ℤ, pos, negsuc, ◌+ℤ◌, ◌-ℤ◌, ◌*ℤ◌, nat_abs, ◌≤ℤ◌, refl, arith, lit<}
+use Rattle.std.proofs.Common.{ℕ, suc, ◌+◌, ◌-◌, ◌*◌, ◌≤◌, [], ◌∷◌, ℤ, pos, negsuc, ◌+ℤ◌, ◌-ℤ◌, ◌*ℤ◌, nat_abs, ◌≤ℤ◌, refl, arith, lit<}
 use borrow.Author.Differences.{ints}
 use Rattle.integers.proofs.Ring.{var, ◌⊕◌, ◌⊖◌, ◌⊗◌, ⊝, #}
 use Rattle.integers.proofs.Certificates.{le_by, gap, nat, ◌⊞◌, ◌⊠◌}
 use Rattle.integers.proofs.Rounding.{div_up_bounds}
 use Rattle.hull.specs.Units.{support_unit, weight_unit, reach_unit}
 use Rattle.hull.specs.Weights.{rounded_up, rounded_down}
-use Rattle.support.specs.Supports.{kept, rounded, share}
+use Rattle.support.specs.Supports.{kept, share}
 
 -- by how much a share may pass the unrounded one, where the support value is at most m in size
 abbrev pub excess : ℕ → ℕ → ℕ

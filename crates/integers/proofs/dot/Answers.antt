@@ -1,4 +1,4 @@
-use Rattle.std.proofs.Common.{◌*◌, ◌^◌, ◌≤◌, ℤ, ◌+ℤ◌, nat_abs, sym, ◌∙◌, subst, ap₂, lit<, w32, w64}
+use Rattle.std.proofs.Common.{◌*◌, ◌^◌, ◌≤◌, ℤ, ◌+ℤ◌, nat_abs, sym, ◌∙◌, subst, ap₂, lit<}
 use mir.Syntax.{w128}
 use Rattle.std.proofs.lemmas.Int.{to_z-of_z}
 use Rattle.integers.proofs.Fits.{sum_fits, sum3_fits, sum3_is, sum3_small}

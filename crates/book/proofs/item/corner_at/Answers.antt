@@ -1,4 +1,4 @@
-use Rattle.std.proofs.Common.{◌≡◌, ◌+◌, true, false, get_or, ℤ, pos, Some, None, Option, sym, refl, ap, ◌∙◌, subst, w64, SFits, rules, MatchOption}
+use Rattle.std.proofs.Common.{◌≡◌, ◌+◌, true, false, get_or, ℤ, pos, Some, None, Option, w64, SFits, rules, MatchOption}
 use Rattle.std.proofs.lemmas.Int.{to_z-of_z}
 use Rattle.hull.specs.Units.{corner_limit, Within}
 use Rattle.hull.specs.declared.corner.Corner.{Corner}

@@ -1,4 +1,4 @@
-use Rattle.std.proofs.Common.{◌≡◌, ap, ◌∙◌, w8, SFits, rules}
+use Rattle.std.proofs.Common.{w8, SFits, rules}
 use Rattle.std.proofs.lemmas.Int.{to_z-of_z}
 use Rattle.hull.proofs.FaceTable.{place_is}
 use Rattle.hull.proofs.decompose.place_of.Goals as goal

@@ -1,4 +1,4 @@
-use Rattle.std.proofs.Common.{◌≡◌, List, [], ◌∷◌, sym, subst, w64, SFits, rules}
+use Rattle.std.proofs.Common.{◌≡◌, List, [], ◌∷◌, subst, w64, SFits}
 use Rattle.std.proofs.lemmas.Int.{to_z-of_z}
 use Rattle.hull.specs.declared.face.Weight.{Weight}
 use Rattle.hull.specs.Weights.{box_weights_lem, sorted, Ranked}

@@ -1,7 +1,5 @@
-use Rattle.std.proofs.Common.{◌≡◌, true, ◌&&◌, sym, refl, ap, ◌∙◌, subst}
 use Rattle.std.proofs.lemmas.Bool.{and_from, and_left, and_right}
 use Rattle.book.specs.Facets.{fits_at, within, facet_of}
-use Rattle.book.specs.declared.item.Facet.{Facet}
 use Rattle.book.proofs.item.Facet.new.Goals as goal
 
 pub returns-in_err-a : goal.returns-in_err-a
