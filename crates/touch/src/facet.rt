@@ -25,7 +25,7 @@ impl Facet {
 
     // The hull of the three corners.
     pub(crate) fn hull<H: Hull>(&self) -> H
-        ensures { fits result (corners self.now) }
+        ensures { H.fits result (corners self.now) }
     {
         H::first(self.a).more(self.b).more(self.c)
     }

@@ -26,7 +26,7 @@ pub const MOST_BYTES: usize = 65536;
 
 // The hull of the facet that is due.
 fn read_facet<H: Hull>(input: &mut Words) -> Result<H, Refusal>
-    ensures { MatchResult result (λ h. (f : FacetOf) × AllNumbered (words input.old.rest.now) (entries f) (words input.new.rest.now) × fits h (corners f)) (λ e. NotRead 9 InRange CornerOutOfRange (words input.old.rest.now) input.old.section input.old.taken e) }
+    ensures { MatchResult result (λ h. (f : FacetOf) × AllNumbered (words input.old.rest.now) (entries f) (words input.new.rest.now) × H.fits h (corners f)) (λ e. NotRead 9 InRange CornerOutOfRange (words input.old.rest.now) input.old.section input.old.taken e) }
 {
     let numbers = input.numbers::<9>()?;
     match Facet::new(numbers) {
@@ -37,7 +37,7 @@ fn read_facet<H: Hull>(input: &mut Words) -> Result<H, Refusal>
 
 // The hull of the object that is due.
 fn read_object<H: Hull>(input: &mut Words, facets: Section, ties: Section) -> Result<H, Stop>
-    ensures { IfOk result (λ h. (f : FacetOf) × fits h (corners f)) }
+    ensures { IfOk result (λ h. (f : FacetOf) × H.fits h (corners f)) }
 {
     input.open(facets)?;
     if input.count()? != 1 {

@@ -11,7 +11,7 @@ returns-then-not-is_ascii_digit c =
     record {
       cases = λ k.
           let at = digit_at c.args.word.now c.loop-byte.byte-index k.2 c.loop-byte-test.true in
-          ⊎_elim (λ (low : _). omega arith) (λ (high : _). omega arith) c.if-not-is-ascii-digit.ensures.cases;
+          ⊎_elim (λ (low : _). omega arith) (λ (high : _). omega arith) c.if-not-is_ascii_digit.ensures.cases;
       bound = tt;
     }
 
@@ -21,11 +21,11 @@ overflow_mul-total c = let h = short_front c.args.word.now c.loop-byte.byte-inde
 pub overflow_add-total : goal.overflow_add-total
 overflow_add-total c =
     let h = short_front c.args.word.now c.loop-byte.byte-index c.loop-byte.invariant.0 c.loop-byte.invariant.2 in
-    omega (arith, c.if-not-is-ascii-digit.ensures.cases)
+    omega (arith, c.if-not-is_ascii_digit.ensures.cases)
 
 pub loop-byte-preserved : goal.loop-byte-preserved
 loop-byte-preserved c =
-    let told = c.if-not-is-ascii-digit.ensures in
+    let told = c.if-not-is_ascii_digit.ensures in
     let w = c.args.word.now in
     let i = c.loop-byte.byte-index in
     let l = c.loop-byte-test.true in

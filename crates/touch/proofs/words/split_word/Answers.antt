@@ -22,6 +22,6 @@ returns c =
     let parts = c.split_at-2.ensures in
     record {
       words = first_word bs front m n seps after letters c.split_at-2.result.0.now c.split_at-2.result.1.now parts.front parts.back;
-      none = λ e. no_word bs front m n seps after letters (sym parts.front-len ∙ e);
-      lengths = omega (arith, parts.front-len, parts.back_len, c.split_at.ensures.back_len);
+      none = λ e. no_word bs front m n seps after letters (sym parts.front_len ∙ e);
+      lengths = omega (arith, parts.front_len, parts.back_len, c.split_at.ensures.back_len);
     }
