@@ -14,7 +14,7 @@ pub enum Line {
     Expect(Call, Code),
 }
 
-// The code of an answer.
+// The code of an answer. A list answers only a comparison, and a history has none: no line has the code of one.
 pub(crate) fn code_of(answer: Answer) -> Code {
     match answer {
         Answer::Started => Code { sort: 0, number: 0 },
@@ -33,6 +33,10 @@ pub(crate) fn code_of(answer: Answer) -> Code {
         Answer::Refused(why) => Code {
             sort: 4,
             number: why.number() as u64,
+        },
+        Answer::Listed(pairs, _) => Code {
+            sort: 5,
+            number: pairs as u64,
         },
     }
 }
