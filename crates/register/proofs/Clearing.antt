@@ -1,11 +1,11 @@
 -- The page is thrown away.
-use Rattle.std.proofs.Common.{◌≡◌, length, None, refl, ap, ◌∙◌}
+use Rattle.std.proofs.Common.{◌≡◌, None, ap, ◌∙◌}
 use Rattle.hull.specs.declared.corner.Corner.{Corner}
 use Rattle.book.specs.Books.{turned}
 use Rattle.book.specs.Ledgers.{book_over}
 use Rattle.book.proofs.Growth.{grown_cleared}
 use Rattle.register.specs.declared.register.Register.{Register}
-use Rattle.register.specs.Tables.{items_of, hulls_of}
+use Rattle.register.specs.Tables.{items_of}
 use Rattle.register.specs.Registers.{book_of, Grown, cleared}
 
 module _ {H : Type 0} (before after : Register H) (l : after.ledger ≡ cleared before.ledger) (t : after.table.now ≡ before.table.now) where

@@ -1,5 +1,5 @@
 -- From the walk over the stored hulls to what the list of a comparison says.
-use Rattle.std.proofs.Common.{◌≡◌, ℕ, true, false, ◌&&◌, List, length, ℤ, Ok, Err, Result, sym, refl, ap, ◌∙◌, subst₂}
+use Rattle.std.proofs.Common.{◌≡◌, ℕ, true, List, length, ℤ, Result, sym, ap, ◌∙◌, subst₂}
 use Rattle.std.proofs.lemmas.Bool.{and_parts}
 use Rattle.hull.specs.declared.corner.Corner.{Corner}
 use Rattle.hull.specs.declared.direction.Direction.{Direction}
@@ -17,7 +17,7 @@ use Rattle.walks.specs.Answers.{both_closed, WalkedInto, all, first, Answers, no
 use Rattle.walks.proofs.Answered.{answers_as}
 use Rattle.walks.proofs.Listing.{Laws, stored_listing}
 use Rattle.register.specs.declared.register.Register.{Register}
-use Rattle.register.specs.Tables.{items_of, hulls_of}
+use Rattle.register.specs.Tables.{hulls_of}
 use Rattle.register.specs.Registers.{book_of, Grown}
 use Rattle.register.specs.Comparing.{places_of, WalkStored, comparison, compared}
 use Rattle.register.proofs.Fields.{length_items, length_hulls}

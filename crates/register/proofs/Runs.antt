@@ -1,5 +1,5 @@
 -- Histories, one call longer.
-use Rattle.std.proofs.Common.{◌≡◌, List, [], ◌∷◌, ◌++◌, refl}
+use Rattle.std.proofs.Common.{List, [], ◌∷◌, ◌++◌}
 use Rattle.book.specs.declared.call.Call.{Call}
 use Rattle.book.specs.declared.call.Answer.{Answer}
 use Rattle.book.specs.Books.{Book, Said}

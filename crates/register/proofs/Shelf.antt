@@ -1,22 +1,21 @@
 -- The closed objects of a register: their places, items and hulls.
-use Rattle.std.proofs.Common.{◌≡◌, ℕ, ◌+◌, ◌-◌, ◌<◌, ◌≤◌, true, false, ◌&&◌, ltb, List, [], length, get_or, ℤ, pos, negsuc, nat_abs, sym, refl, ap, ◌∙◌, subst, ap₂, arith}
+use Rattle.std.proofs.Common.{◌≡◌, ℕ, ◌<◌, ◌≤◌, true, false, ◌&&◌, ltb, [], length, get_or, ℤ, pos, negsuc, nat_abs, sym, refl, ap, ◌∙◌, subst, arith}
 use Rattle.std.proofs.lemmas.Bool.{lt-ltb, le-ltb, ltb-true, false≢true}
 use Rattle.hull.specs.declared.corner.Corner.{Corner}
 use Rattle.book.specs.declared.ledger.Span.{Span}
 use Rattle.book.specs.Limits.{place_limit}
 use Rattle.book.specs.Books.{closed, object, counts}
 use Rattle.book.specs.Pages.{complete}
-use Rattle.book.specs.Ledgers.{slice, objects, book_over}
+use Rattle.book.specs.Ledgers.{slice, book_over}
 use Rattle.book.specs.Hulls.{GrownPage}
 use Rattle.book.proofs.Slices.{object_at, object_over_at, length_slice, slice_short}
 use Rattle.book.proofs.LedgerLaws.{count_objects}
 use Rattle.book.proofs.Wholes.{all_complete_at, some_item}
-use Rattle.register.specs.declared.place.Place.{Place}
 use Rattle.register.specs.declared.register.Register.{Register}
 use Rattle.register.specs.Tables.{items_of, hulls_of}
 use Rattle.register.specs.Registers.{book_of, Grown}
 use Rattle.register.specs.Comparing.{places_of}
-use Rattle.register.proofs.Fields.{sound, table_of, items_slice, hulls_slice, length_items}
+use Rattle.register.proofs.Fields.{sound, table_of, items_slice, hulls_slice}
 
 module _ {H : Type 0} (r : Register H) where
   count : length (book_of r).objects ≡ r.ledger.closed

@@ -1,10 +1,10 @@
-use Rattle.std.proofs.Common.{◌≡◌, ℕ, ◌+◌, ◌*◌, ◌<◌, ◌≤◌, min, List, [], ◌∷◌, ◌++◌, length, get_or, take, drop, set, sym, refl, ap, ◌∙◌, subst, subst₂, arith}
+use Rattle.std.proofs.Common.{◌≡◌, ℕ, ◌+◌, ◌<◌, min, List, length, take, drop, set, sym, refl, ap, ◌∙◌, subst, subst₂, arith}
 use Rattle.std.proofs.lemmas.List.{drop-set-lt, drop-drop}
 use Rattle.book.specs.declared.call.Answer.{Answer}
-use Rattle.book.specs.Books.{Book, opened}
+use Rattle.book.specs.Books.{Book}
 use Rattle.walks.specs.Runs.{Ran}
-use Rattle.walks.proofs.Runs.{Within, running_none, next_write, next_compare}
-use Rattle.register.specs.Registers.{book_of, Grown}
+use Rattle.walks.proofs.Runs.{running_none, next_write, next_compare}
+use Rattle.register.specs.Registers.{book_of}
 use Rattle.register.proofs.requests.replay_requests.Goals as goal
 use Rattle.register.proofs.requests.replay_requests.Goals.{in-Write, in-Compare}
 

@@ -1,6 +1,6 @@
-use Rattle.std.proofs.Common.{◌≡◌, ℕ, ◌<◌, ◌≤◌, false, length, pos, sym, refl, ap, ◌∙◌, subst, inl, inr, arith, w64, SFits, rules}
+use Rattle.std.proofs.Common.{◌≡◌, ℕ, ◌≤◌, false, length, pos, ◌∙◌, inr, arith, w64, SFits, rules}
 use Rattle.std.proofs.lemmas.Int.{to_z-of_z}
-use Rattle.book.specs.Books.{joins, joinable}
+use Rattle.book.specs.Books.{joinable}
 use Rattle.book.proofs.Forest.{joins_yes}
 use Rattle.book.proofs.Joining.{joins_past_left, joins_past_right, joins_pos, joinable_left, joinable_right, joinable_same}
 use Rattle.register.specs.Tables.{items_of}

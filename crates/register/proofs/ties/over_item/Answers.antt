@@ -1,9 +1,7 @@
-use Rattle.std.proofs.Common.{◌≡◌, ℕ, ◌+◌, ◌<◌, ◌≤◌, List, [], ◌∷◌, ◌++◌, length, take, fold, sym, refl, ap, ◌∙◌, subst, arith, rules}
-use borrow.Author.Rules.{scaled_Fits}
+use Rattle.std.proofs.Common.{◌≡◌, ◌<◌, [], ◌∷◌, ◌++◌, length, take, ap, ◌∙◌, arith, rules}
 use Rattle.std.proofs.lemmas.List.{length-take-le, nil_from_length}
-use Rattle.book.specs.Trees.{tree, corners}
 use Rattle.book.proofs.Forest.{low_at}
-use Rattle.book.proofs.Pending.{Growing, growing_one, growing_none}
+use Rattle.book.proofs.Pending.{growing_one, growing_none}
 use Rattle.register.specs.Tables.{items_of}
 use Rattle.register.proofs.Fields.{length_items}
 use Rattle.register.proofs.Turns.{inside, facet_turn, facet_less, tie_room, tie_turn, tie_less}

@@ -1,4 +1,4 @@
-use Rattle.std.proofs.Common.{◌≡◌, ◌<◌, sym, refl, ap, ◌∙◌, subst, arith, rules}
+use Rattle.std.proofs.Common.{arith, rules}
 use Rattle.register.proofs.Reading.{height_read, low_read}
 use Rattle.book.specs.Books.{tie_height_lem}
 use Rattle.register.proofs.ties.tie_height.Goals as goal

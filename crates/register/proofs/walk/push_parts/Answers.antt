@@ -1,5 +1,4 @@
-use Rattle.std.proofs.Common.{◌++◌, take, sym, refl, ap, ◌∙◌, ap₂, arith}
-use Rattle.walks.specs.Parts.{facets?, below}
+use Rattle.std.proofs.Common.{refl, ◌∙◌}
 use Rattle.register.proofs.Pushing.{two_pushed, four_pushed}
 use Rattle.register.proofs.walk.push_parts.Goals as goal
 

@@ -1,16 +1,13 @@
-use Rattle.std.proofs.Common.{◌≡◌, ℕ, ◌+◌, ◌-◌, ◌*◌, ◌<◌, ◌≤◌, Bool, true, false, not, T, List, [], ◌∷◌, ◌++◌, length, take, sym, refl, ap, ◌∙◌, subst, ap₂, arith, rules}
+use Rattle.std.proofs.Common.{◌≡◌, ℕ, ◌+◌, ◌-◌, ◌<◌, ◌≤◌, Bool, true, false, not, List, [], ◌∷◌, ◌++◌, length, take, sym, refl, ap, ◌∙◌, ap₂, arith, rules}
 use Rattle.std.proofs.lemmas.List.{length-take-le, nil_from_length}
 use Rattle.std.proofs.lemmas.Bool.{false≢true}
 use Rattle.book.specs.Pages.{complete}
-use Rattle.book.specs.Limits.{place_limit}
 use Rattle.book.proofs.Wholes.{some_item}
-use Rattle.walks.specs.Parts.{facets?}
-use Rattle.walks.proofs.State.{Taken, begin, done}
+use Rattle.walks.proofs.State.{begin, done}
 use Rattle.register.specs.Tables.{items_of}
 use Rattle.register.specs.declared.place.Place.{Place}
 use Rattle.register.proofs.Fields.{length_items}
 use Rattle.register.proofs.Walks.{walked_of, stands, popped, in_moved, in_standing, counted, parted_goes, room, parts_goes, facets_goes, full}
-use Rattle.register.proofs.walk.walk.Given as given
 use Rattle.register.proofs.walk.walk.Goals as goal
 
 some_place_lem : {H : Type 0} (t : List (Place H)) → complete (items_of t) ≡ true → 1 ≤ length t

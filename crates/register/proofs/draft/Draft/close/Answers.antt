@@ -1,4 +1,4 @@
-use Rattle.std.proofs.Common.{◌≡◌, sym, refl, ap, ◌∙◌}
+use Rattle.std.proofs.Common.{sym, refl, ap, ◌∙◌}
 use Rattle.book.specs.declared.call.Answer.TheVariants as answer
 use Rattle.book.specs.Trees.{untied}
 use Rattle.book.specs.Books.{written}

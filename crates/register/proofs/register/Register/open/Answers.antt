@@ -1,4 +1,4 @@
-use Rattle.std.proofs.Common.{◌≡◌, ◌-◌, min, length, replicate, sym, refl, ◌∙◌, arith}
+use Rattle.std.proofs.Common.{◌≡◌, min, length, replicate, refl, arith}
 use Rattle.book.specs.Limits.{place_limit}
 use Rattle.book.specs.Ledgers.{objects, book_over}
 use Rattle.book.proofs.LedgerLaws.{sound_opened, same_book}

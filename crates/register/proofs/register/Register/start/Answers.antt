@@ -1,4 +1,4 @@
-use Rattle.std.proofs.Common.{◌≡◌, is_some, sym, refl, ap, ◌∙◌, arith}
+use Rattle.std.proofs.Common.{is_some, refl, ap, arith}
 use Rattle.book.specs.Ledgers.{book_over}
 use Rattle.book.specs.declared.refusal.Refusal.TheVariants.{DraftOpen, ObjectsFull}
 use Rattle.book.proofs.Answering.{goes, stays, start_yes, start_1, start_2}
