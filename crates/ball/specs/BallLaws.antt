@@ -3,7 +3,7 @@ use Rattle.std.specs.Prelude.{◌≡◌, ℕ, ◌+◌, ◌*◌, ◌≤◌, max, 
 use Rattle.std.proofs.Common.{sym, ◌∙◌, ap, ap₂, arith, lit<}
 use Rattle.std.proofs.Math.Nat as N
 use Rattle.std.proofs.lemmas.Int.{ints}
-use Rattle.std.specs.List.{AllByRecursion as All}
+use Rattle.std.specs.List.{AllByRecursion}
 use Rattle.std.proofs.ByRecursion.{All-weaker}
 use Rattle.integers.specs.Roots.{root_up}
 use Rattle.integers.proofs.Order.{small_mul}
@@ -23,12 +23,12 @@ farthest_more : (z : Corner) (c : List Corner) (p : Corner) → farthest z (c ++
 farthest_more z [] p = omega arith
 farthest_more z (v ∷ c) p = let e = farthest_more z c p in omega arith
 
-farthest_over : (z : Corner) (c : List Corner) → All (λ v. distance_up v z ≤ farthest z c) c
+farthest_over : (z : Corner) (c : List Corner) → AllByRecursion (λ v. distance_up v z ≤ farthest z c) c
 farthest_over z [] = tt
 farthest_over z (v ∷ c) =
     (N.le-max_left (distance_up v z) (farthest z c), All-weaker (λ w. distance_up w z ≤ farthest z c) (λ w. distance_up w z ≤ farthest z (v ∷ c)) (λ w l. omega arith) c (farthest_over z c))
 
-farthest_under : (z : Corner) (n : ℕ) (c : List Corner) → All (λ v. distance_up v z ≤ n) c → farthest z c ≤ n
+farthest_under : (z : Corner) (n : ℕ) (c : List Corner) → AllByRecursion (λ v. distance_up v z ≤ n) c → farthest z c ≤ n
 farthest_under z n [] h = omega arith
 farthest_under z n (v ∷ c) h = let l = farthest_under z n c h.1 in omega arith
 
@@ -47,14 +47,14 @@ another h [] p f = absurd f
 another h (z ∷ c) p f = (f.0, ap₂ max f.1 (ap (distance_up p) f.0) ∙ sym (farthest_more z (z ∷ c) p))
 
 -- ---- what a fit says of each corner
-inside : (h : BallHull) (c : List Corner) → BallFits h c → All (λ v. distance_up v h.centre ≤ h.radius) c
+inside : (h : BallHull) (c : List Corner) → BallFits h c → AllByRecursion (λ v. distance_up v h.centre ≤ h.radius) c
 inside h [] f = tt
 inside h (z ∷ c) f =
     All-weaker (λ v. distance_up v z ≤ farthest z (z ∷ c)) (λ v. distance_up v h.centre ≤ h.radius) (λ v l. rw (f.0, f.1) l) (z ∷ c) (farthest_over z (z ∷ c))
 
-near_centre : (h : BallHull) (c : List Corner) (s : ℕ) → BallFits h c → Spread s c → All (λ v. Near s v h.centre) c
+near_centre : (h : BallHull) (c : List Corner) (s : ℕ) → BallFits h c → Spread s c → AllByRecursion (λ v. Near s v h.centre) c
 near_centre h [] s f n = tt
-near_centre h (z ∷ c) s f n = All-weaker (λ v. All (λ w. Near s v w) (z ∷ c)) (λ v. Near s v h.centre) (λ v t. rw f.0 t.0) (z ∷ c) n
+near_centre h (z ∷ c) s f n = All-weaker (λ v. AllByRecursion (λ w. Near s v w) (z ∷ c)) (λ v. Near s v h.centre) (λ v t. rw f.0 t.0) (z ∷ c) n
 
 -- corners that differ by at most s in each coordinate are at most 2 s apart
 near_distance : (s : ℕ) (v z : Corner) → Near s v z → distance_up v z ≤ 2 * s
@@ -65,7 +65,7 @@ near_distance s v z t =
 radius_under : (h : BallHull) (c : List Corner) (s : ℕ) → BallFits h c → Spread s c → h.radius ≤ 2 * s
 radius_under h [] s f n = absurd f
 radius_under h (z ∷ c) s f n =
-    rw f.1 (farthest_under z (2 * s) (z ∷ c) (All-weaker (λ v. All (λ w. Near s v w) (z ∷ c)) (λ v. distance_up v z ≤ 2 * s) (λ v t. near_distance s v z t.0) (z ∷ c) n))
+    rw f.1 (farthest_under z (2 * s) (z ∷ c) (All-weaker (λ v. AllByRecursion (λ w. Near s v w) (z ∷ c)) (λ v. distance_up v z ≤ 2 * s) (λ v t. near_distance s v z t.0) (z ∷ c) n))
 
 -- ---- squares
 square_is : (z : ℤ) → z *ℤ z ≡ pos (unsigned_abs z * unsigned_abs z)

@@ -1,7 +1,7 @@
 -- The reach as the code sums it up.
 use Rattle.std.proofs.Common.{◌≡◌, ℕ, ◌<◌, List, [], ◌∷◌, map, length, get_or, ℤ, pos, negsuc, ◌+ℤ◌, sym, refl, ap, ◌∙◌, ap₂, arith}
 use lib.IntN.{+ℤ_idr, +ℤ_assoc}
-use Rattle.std.specs.List.{AllByRecursion as All}
+use Rattle.std.specs.List.{AllByRecursion}
 use Rattle.std.proofs.ByRecursion.{All-map, All-weaker}
 use Rattle.hull.specs.declared.face.FaceWeight.{FaceWeight}
 use Rattle.hull.specs.declared.face.Weight.{Weight}
@@ -30,5 +30,5 @@ terms_reach values [] = refl
 terms_reach values (w ∷ ws) = ap₂ ◌+ℤ◌ (counted_divided w (support values w.on)) (terms_reach values ws)
 
 -- the faces of a direction's weights are among those of the hull
-pub faces_within : (n : ℕ) (ws : List Weight) → All (λ (w : Weight). Listed n w.on) ws → All (λ (w : FaceWeight). w.face < n) (map divided ws)
+pub faces_within : (n : ℕ) (ws : List Weight) → AllByRecursion (λ (w : Weight). Listed n w.on) ws → AllByRecursion (λ (w : FaceWeight). w.face < n) (map divided ws)
 faces_within n ws h = All-map (λ (w : FaceWeight). w.face < n) divided ws (All-weaker (λ (w : Weight). Listed n w.on) (λ (w : Weight). (divided w).face < n) (λ w l. l.within) ws h)

@@ -1,7 +1,7 @@
 // The reach of a hull with faces.
 ghost use Rattle.std.specs.Prelude.{◌≡◌, ◌^◌, ◌<◌, ◌≤◌, length, ℤ, pos, ◌*ℤ◌, unsigned_abs};
 ghost use Rattle.hull.specs.declared.face.FaceWeight.{FaceWeight as Kept};
-ghost use Rattle.std.specs.List.{AllByRecursion as All};
+ghost use Rattle.std.specs.List.{AllByRecursion};
 ghost use Rattle.faced.specs.Terms.{counted, term, terms};
 
 use hull::FaceWeight;
@@ -23,7 +23,7 @@ fn part(w: &FaceWeight, g: i16) -> i64
 
 // The sum of the three parts.
 pub(crate) fn reach_along<const N: usize>(values: &[i16; N], weights: &[FaceWeight; 3]) -> i64
-    requires { All (λ (w : Kept). w.face < N) weights.now }
+    requires { AllByRecursion (λ (w : Kept). w.face < N) weights.now }
     ensures { result ≡ terms values.now weights.now }
 {
     let [a, b, c] = weights;

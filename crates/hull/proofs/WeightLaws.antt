@@ -2,7 +2,7 @@
 use Rattle.std.proofs.Common.{◌≡◌, ℕ, ◌+◌, ◌≤◌, Bool, true, false, cond, not, T, leb, List, [], ◌∷◌, ℤ, pos, negsuc, ◌+ℤ◌, nat_abs, sym, refl, ap, ◌∙◌, subst, arith, leb→le}
 use borrow.Author.Differences.{ints}
 use lib.Dec.{nleb→lt}
-use Rattle.std.specs.List.{AllByRecursion as All}
+use Rattle.std.specs.List.{AllByRecursion}
 use Rattle.hull.specs.declared.face.Face.{Face}
 use Rattle.hull.specs.declared.face.Weight.{Weight}
 use Rattle.hull.specs.Units.{direction_limit}
@@ -33,7 +33,7 @@ falls_insert n w (v ∷ vs) h f = by (leb v.amount w.amount) refl (falls_insert 
         let l = nleb→lt v.amount w.amount (subst (λ (t : Bool). T (not t)) (sym e) tt) in
         (f.0, r (omega arith) f.1)
 
-pub falls_sorted : (n : ℕ) (ws : List Weight) → All (λ (w : Weight). w.amount ≤ n) ws → Falls n (sorted ws)
+pub falls_sorted : (n : ℕ) (ws : List Weight) → AllByRecursion (λ (w : Weight). w.amount ≤ n) ws → Falls n (sorted ws)
 falls_sorted n [] h = tt
 falls_sorted n (w ∷ ws) h = falls_insert n w (sorted ws) h.0 (falls_sorted n ws h.1)
 

@@ -1,6 +1,6 @@
 -- What the laws of a hull speak of.
 use Rattle.std.specs.Prelude.{ℕ, ◌+◌, ◌*◌, ◌≤◌, List, ℤ, pos, ◌+ℤ◌, ◌-ℤ◌, ◌*ℤ◌, ◌≤ℤ◌, unsigned_abs}
-use Rattle.std.specs.List.{AllByRecursion as All}
+use Rattle.std.specs.List.{AllByRecursion}
 use Rattle.hull.specs.declared.corner.Corner.{Corner}
 use Rattle.hull.specs.declared.direction.Direction.{Direction}
 use Rattle.hull.specs.Units.{reach_unit, slack, rounding}
@@ -21,15 +21,15 @@ pub record Near (s : ℕ) (v w : Corner) : Type 0 where
 
 -- no two corners of the list differ by more than s in a coordinate: the spread of the list is at most s
 abbrev pub Spread : ℕ → List Corner → Type 0
-Spread s c = All (λ v. All (λ w. Near s v w) c) c
+Spread s c = AllByRecursion (λ v. AllByRecursion (λ w. Near s v w) c) c
 
 -- first law: u·v ≤ 256 × reach, for each corner v of the list
 abbrev pub Covers : ℤ → Direction → List Corner → Type 0
-Covers reach u c = All (λ v. along u v ≤ℤ (pos reach_unit *ℤ reach)) c
+Covers reach u c = AllByRecursion (λ v. along u v ≤ℤ (pos reach_unit *ℤ reach)) c
 
 -- second law: 256 × reach ≤ u·v + 3 × |u| × (s + 8) + 16,777,216, for each corner v of the list, where the corners spread by at most s
 abbrev pub Tight : ℤ → Direction → ℕ → List Corner → Type 0
-Tight reach u s c = All (λ v. (pos reach_unit *ℤ reach) ≤ℤ (along u v +ℤ pos (3 * (size u * (s + 8)) + slack))) c
+Tight reach u s c = AllByRecursion (λ v. (pos reach_unit *ℤ reach) ≤ℤ (along u v +ℤ pos (3 * (size u * (s + 8)) + slack))) c
 
 -- unrounded ≤ 256 × reach ≤ unrounded + 3 × |u| + 12,386,304
 pub record Rounds (reach unrounded : ℤ) (u : Direction) : Type 0 where

@@ -1,6 +1,6 @@
 -- A job that is written down spells itself.
 use Rattle.std.proofs.Common.{◌≡◌, ℕ, suc, ◌^◌, ◌<◌, true, false, List, [], ◌∷◌, ◌++◌, map, length, get_or, ℤ, pos, negsuc, nat_abs, Some, decimal, sym, refl, ap, ◌∙◌, subst, append_assoc, append-nil, arith, rules}
-use Rattle.std.specs.List.{flat_map, AllByRecursion as All}
+use Rattle.std.specs.List.{flat_map, AllByRecursion}
 use Rattle.std.specs.Str.Parse.{AllDigits, digits_value}
 use Rattle.std.specs.Fmt.{signed_decimal}
 use Rattle.std.proofs.lemmas.Fmt.{decimal_nonempty, length-decimal-le, digits_decimal, digits_value-decimal}
@@ -48,9 +48,9 @@ number_written (negsuc n) small =
 -- a word: some bytes, and no separator
 record Solid (w : Word) : Type 0 where
   pub some : 0 < length w
-  pub letters : All (λ b. separator b ≡ false) w
+  pub letters : AllByRecursion (λ b. separator b ≡ false) w
 
-digits_solid : (ds : List ℕ) → AllDigits 10 ds → All (λ b. separator b ≡ false) ds
+digits_solid : (ds : List ℕ) → AllDigits 10 ds → AllByRecursion (λ b. separator b ≡ false) ds
 digits_solid [] d = tt
 digits_solid (c ∷ cs) d = (let low = digit_from_value c d.0 in grind (arith, nat_tests), digits_solid cs d.1)
 
@@ -63,24 +63,24 @@ signed_solid (pos n) small = decimal_solid n small
 signed_solid (negsuc n) small = let rest = decimal_solid (suc n) small in record { some = omega arith; letters = (refl, rest.letters) }
 
 -- a word in front
-word_in_front : (v w bs : List ℕ) → All (λ b. separator b ≡ false) w → words_after v (w ++ (32 ∷ bs)) ≡ ended (v ++ w) ++ words bs
+word_in_front : (v w bs : List ℕ) → AllByRecursion (λ b. separator b ≡ false) w → words_after v (w ++ (32 ∷ bs)) ≡ ended (v ++ w) ++ words bs
 word_in_front v [] bs h = ap (λ l. ended l ++ words bs) (sym (append-nil v))
 word_in_front v (b ∷ w) bs h =
     rw h.0 (word_in_front (v ++ (b ∷ [])) w bs h.1 ∙ ap (λ l. ended l ++ words bs) (append_assoc v (b ∷ []) w))
 
 -- words with a space after each are parted again
-spaced_words : (ws : List Word) → All Solid ws → words (spaced ws) ≡ ws
+spaced_words : (ws : List Word) → AllByRecursion Solid ws → words (spaced ws) ≡ ws
 spaced_words [] h = refl
 spaced_words ([] ∷ ws) h = absurd (omega (arith, h.0.some))
 spaced_words ((b ∷ w) ∷ ws) h =
     word_in_front [] (b ∷ w) (spaced ws) h.0.letters ∙ ap (λ l. (b ∷ w) ∷ l) (spaced_words ws h.1)
 
 -- the words of a row
-row_says : (r : List ℤ) → All (λ z. nat_abs z < 10 ^ 10) r → Says (map signed_decimal r) r
+row_says : (r : List ℤ) → AllByRecursion (λ z. nat_abs z < 10 ^ 10) r → Says (map signed_decimal r) r
 row_says [] h = tt
 row_says (z ∷ zs) h = (number_written z h.0, row_says zs h.1)
 
-row_solid : (r : List ℤ) → All (λ z. nat_abs z < 10 ^ 10) r → All Solid (map signed_decimal r)
+row_solid : (r : List ℤ) → AllByRecursion (λ z. nat_abs z < 10 ^ 10) r → AllByRecursion Solid (map signed_decimal r)
 row_solid [] h = tt
 row_solid (z ∷ zs) h = (signed_solid z h.0, row_solid zs h.1)
 
@@ -99,7 +99,7 @@ kind_solid kind.Many = record { some = omega arith; letters = search rules }
 kind_solid kind.Ball = record { some = omega arith; letters = search rules }
 
 module _ (f : Form) where
-  rows_say : (rs : List (List ℤ)) → All (λ r. length r ≡ f.width) rs → All (λ r. All (λ z. nat_abs z < 10 ^ 10) r) rs → SaysRows f.width (map (map signed_decimal) rs) rs
+  rows_say : (rs : List (List ℤ)) → AllByRecursion (λ r. length r ≡ f.width) rs → AllByRecursion (λ r. AllByRecursion (λ z. nat_abs z < 10 ^ 10) r) rs → SaysRows f.width (map (map signed_decimal) rs) rs
   rows_say [] w h = tt
   rows_say (r ∷ rs) w h = (w.0, row_says r h.0, rows_say rs w.1 h.1)
 
@@ -107,7 +107,7 @@ module _ (f : Form) where
   rows_joined [] = refl
   rows_joined (r ∷ rs) = ap (λ l. map signed_decimal r ++ l) (rows_joined rs)
 
-  rows_solid : (rs : List (List ℤ)) → All (λ r. All (λ z. nat_abs z < 10 ^ 10) r) rs → All Solid (flat_map (map signed_decimal) rs)
+  rows_solid : (rs : List (List ℤ)) → AllByRecursion (λ r. AllByRecursion (λ z. nat_abs z < 10 ^ 10) r) rs → AllByRecursion Solid (flat_map (map signed_decimal) rs)
   rows_solid [] h = tt
   rows_solid (r ∷ rs) h = All-append Solid (map signed_decimal r) (flat_map (map signed_decimal) rs) (row_solid r h.0) (rows_solid rs h.1)
 
@@ -122,15 +122,15 @@ module _ (f : Form) where
         are = ap (λ l. opening s ∷ decimal (length rs) ∷ l) (rows_joined rs);
       }
 
-  section_solid : (s : Section) (rs : List (List ℤ)) → Writable f rs → All Solid (section_words s rs)
+  section_solid : (s : Section) (rs : List (List ℤ)) → Writable f rs → AllByRecursion Solid (section_words s rs)
   section_solid s rs h = (opening_solid s, (decimal_solid (length rs) h.few, rows_solid rs h.small))
 
   -- a section before other words
-  section_first : (s : Section) (rs : List (List ℤ)) (ws : List Word) → Writable f rs → All Solid ws → All Solid (section_words s rs ++ ws)
+  section_first : (s : Section) (rs : List (List ℤ)) (ws : List Word) → Writable f rs → AllByRecursion Solid ws → AllByRecursion Solid (section_words s rs ++ ws)
   section_first s rs ws h rest = All-append Solid (section_words s rs) ws (section_solid s rs h) rest
 
 -- the words of a job
-job_solid : (j : Job) → Complete j → All Solid (job_words j)
+job_solid : (j : Job) → Complete j → AllByRecursion Solid (job_words j)
 job_solid j h =
     let p = section_words section.Placements j.placements in
     let t = section_words section.Ties2 j.standing.ties ++ p in

@@ -1,6 +1,6 @@
 -- A job as it is written down.
 use Rattle.std.specs.Prelude.{◌≡◌, ℕ, ◌^◌, ◌<◌, List, [], ◌∷◌, ◌++◌, map, length, ℤ, decimal, unsigned_abs}
-use Rattle.std.specs.List.{flat_map, AllByRecursion as All}
+use Rattle.std.specs.List.{flat_map, AllByRecursion}
 use Rattle.std.specs.Fmt.{signed_decimal}
 use Rattle.jobtext.specs.declared.section.Section.{Section}
 use Rattle.jobtext.specs.declared.section.Section.TheVariants as section
@@ -30,8 +30,8 @@ written j = spaced (job_words j)
 -- each row has as many numbers as its form asks for, and no number has more than ten digits
 pub record Writable (f : Form) (rs : List (List ℤ)) : Type 0 where
   pub few : length rs < 10 ^ 10
-  pub wide : All (λ r. length r ≡ f.width) rs
-  pub small : All (λ r. All (λ z. unsigned_abs z < 10 ^ 10) r) rs
+  pub wide : AllByRecursion (λ r. length r ≡ f.width) rs
+  pub small : AllByRecursion (λ r. AllByRecursion (λ z. unsigned_abs z < 10 ^ 10) r) rs
 
 -- a job that can be written
 pub record Complete (j : Job) : Type 0 where

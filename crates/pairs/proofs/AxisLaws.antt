@@ -1,6 +1,6 @@
 -- The list of a placement's axes.
 use Rattle.std.proofs.Common.{◌≡◌, ℕ, ◌+◌, ◌-◌, ◌<◌, ◌≤◌, List, [], ◌∷◌, ◌++◌, map, length, get_or, take, set, ℤ, sym, refl, ap, ◌∙◌, subst, arith}
-use Rattle.std.specs.List.{AllByRecursion as All}
+use Rattle.std.specs.List.{AllByRecursion}
 use Rattle.std.proofs.ByRecursion.{All-get_or, has_get_or}
 use Rattle.std.proofs.lemmas.List.{get_or-map, get_or_append_left, get_or-append_right, take_more, take_more_set, take_all, length-map, length-set}
 use Rattle.hull.specs.declared.direction.Direction.{Direction}
@@ -60,7 +60,7 @@ module _ (p : Placement) where
       unfolding Parted axis_at
       some_parts i d h k = (axis_at p i, has_get_or (axes_of_lem p) i no_axis (subst (λ (n : ℕ). i < n) (sym axes_length) h), subst (Parts f g) (each_at i d h) k)
 
-      pub none_parts : All (λ s. Parts f g s → ⊥) each → Parted f g p → ⊥
+      pub none_parts : AllByRecursion (λ s. Parts f g s → ⊥) each → Parted f g p → ⊥
       unfolding Parted axis_at
       none_parts h (l, (i, k, at), parts) =
           let m : i < axis_count = subst (λ (n : ℕ). i < n) axes_length k in

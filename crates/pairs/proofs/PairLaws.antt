@@ -1,7 +1,7 @@
 -- One pair of hulls under a placement, from the laws of their kind.
 use Rattle.std.proofs.Common.{◌≡◌, ℕ, ◌+◌, ◌*◌, ◌≤◌, ◌⊎◌, List, ℤ, pos, ◌+ℤ◌, ◌-ℤ◌, ◌*ℤ◌, neg_ℤ, nat_abs, ◌≤ℤ◌, ◌<ℤ◌, sym, refl, ap, subst, inl, inr, arith}
 use borrow.Author.Differences.{ints}
-use Rattle.std.specs.List.{ContainsAt as Has, AllByRecursion as All}
+use Rattle.std.specs.List.{ContainsAt as Has, AllByRecursion}
 use Rattle.std.proofs.ByRecursion.{All-weaker, all_has_itself}
 use Rattle.std.proofs.lemmas.Int.{by_lt_z}
 use Rattle.hull.specs.declared.corner.Corner.{Corner}
@@ -53,8 +53,8 @@ within : {y z : ℤ} {m n : ℕ} → y ≡ z → m ≡ n → z ≤ℤ pos m → 
 within e k l = omega (arith, ints)
 
 -- what holds of every element of one list and every one of another holds of those of lists within them
-every : (c d : List Corner) (R : Corner → Corner → Type 0) → ((v w : Corner) → Has c v → Has d w → R v w) → (v w : List Corner) → All (Has c) v → All (Has d) w → All (λ a. All (R a) w) v
-every c d R r v w hv hw = All-weaker (Has c) (λ a. All (R a) w) (λ a ha. All-weaker (Has d) (R a) (λ b hb. r a b ha hb) w hw) v hv
+every : (c d : List Corner) (R : Corner → Corner → Type 0) → ((v w : Corner) → Has c v → Has d w → R v w) → (v w : List Corner) → AllByRecursion (Has c) v → AllByRecursion (Has d) w → AllByRecursion (λ a. AllByRecursion (R a) w) v
+every c d R r v w hv hw = All-weaker (Has c) (λ a. AllByRecursion (R a) w) (λ a ha. All-weaker (Has d) (R a) (λ b hb. r a b ha hb) w hw) v hv
 
 -- ---- along one axis
 module _ (p : Placement) (l : Axis) where
@@ -101,7 +101,7 @@ module _ (p : Placement) (l : Axis) where
           (over g f w u (neg_ℤ t) (neg_ℤ t') (finer_back (shift_along p l)) d c x v hx hv bg bf k)
 
       -- so there is none where facets share a point
-      no_rooms : (v x : Facet) → All (Has c) (corners v) → All (Has d) (corners x) → SharesPoint p v x → Rooms t → ⊥
+      no_rooms : (v x : Facet) → AllByRecursion (Has c) (corners v) → AllByRecursion (Has d) (corners x) → SharesPoint p v x → Rooms t → ⊥
       no_rooms v x hv hx s (inl k) =
           let m = s.weights in
           split m.a0 m.a1 m.a2 m.b0 m.b1 m.b2 (image_along p l v.v0) (image_along p l v.v1) (image_along p l v.v2) (corner_along l x.v0) (corner_along l x.v1) (corner_along l x.v2) m.some_a m.some_b (shared_along p l v x s)
@@ -155,13 +155,13 @@ module _ (p : Placement) (F G : List Corner → Type 0) (f g : Direction → ℤ
   unparted l m n k = n (l, m, k)
 
   -- what holds along each axis that does not part the hulls holds along all, where they are not parted
-  each_axis : (Q : Axis → Type 0) → ((l : Axis) → (Parts f g (rounded_axis p l) → ⊥) → Q l) → (Parted f g p → ⊥) → All Q (axes_of_lem p)
+  each_axis : (Q : Axis → Type 0) → ((l : Axis) → (Parts f g (rounded_axis p l) → ⊥) → Q l) → (Parted f g p → ⊥) → AllByRecursion Q (axes_of_lem p)
   each_axis Q q n = All-weaker (Has (axes_of_lem p)) Q (λ l m. q l (unparted l m n)) (axes_of_lem p) (all_has_itself (axes_of_lem p))
 
   pub unparted_near : ((c : List Corner) (u : Direction) (s : ℕ) → F c → Spread s c → Tight (f u) u s c) → ((c : List Corner) (u : Direction) (s : ℕ) → G c → Spread s c → Tight (g u) u s c) → (parted : Type 0) → (Parted f g p → parted) → UnpartedNear p F G parted
   unfolding UnpartedNear
   unparted_near hf hg parted is c d s t fc gd sc sd n =
-      each_axis (λ l. All (λ v. All (λ w. apart p l v w ≤ 3 * (moved_size p l * (s + 8)) + 3 * (standing_size l * (t + 8)) + 2 * slack) d) c)
+      each_axis (λ l. AllByRecursion (λ v. AllByRecursion (λ w. apart p l v w ≤ 3 * (moved_size p l * (s + 8)) + 3 * (standing_size l * (t + 8)) + 2 * slack) d) c)
       (λ l k. every c d (λ v w. apart p l v w ≤ 3 * (moved_size p l * (s + 8)) + 3 * (standing_size l * (t + 8)) + 2 * slack) (near p l f g k c d s t (λ u. hf c u s fc sc) (λ u. hg d u t gd sd)) c d (all_has_itself c) (all_has_itself d))
       (λ k. n (is k))
 

@@ -1,7 +1,7 @@
 -- One side of an axis: the moved hull above the standing one, or with the two exchanged and the shift reversed, below it.
 use Rattle.std.proofs.Common.{◌≡◌, ℕ, ◌+◌, ◌*◌, ◌<◌, List, [], ◌∷◌, ℤ, pos, ◌+ℤ◌, ◌-ℤ◌, ◌*ℤ◌, neg_ℤ, ◌≤ℤ◌, ◌<ℤ◌, refl, subst, mul-le-mul, arith}
 use borrow.Author.Differences.{ints}
-use Rattle.std.specs.List.{ContainsAt as Has, AllByRecursion as All}
+use Rattle.std.specs.List.{ContainsAt as Has, AllByRecursion}
 use Rattle.std.proofs.ByRecursion.{all-has}
 use Rattle.integers.proofs.Ring.{Expr, var, ◌⊕◌, ◌⊖◌, ◌⊗◌, #}
 use Rattle.integers.proofs.Certificates.{le_by, gap, nat, ◌⊞◌, ◌⊠◌}
@@ -87,7 +87,7 @@ clash a b e f h k l = omega (arith, ints)
 some : (a b : ℕ) → 0 < a → 0 < b → 0 < a * b
 some a b h k = omega (arith, mul-le-mul h k)
 
-pub split : (a0 a1 a2 b0 b1 b2 : ℕ) (x0 x1 x2 y0 y1 y2 : ℤ) → 0 < a0 + a1 + a2 → 0 < b0 + b1 + b2 → pos (b0 + b1 + b2) *ℤ dot (pos a0) (pos a1) (pos a2) x0 x1 x2 ≡ pos (a0 + a1 + a2) *ℤ dot (pos b0) (pos b1) (pos b2) y0 y1 y2 → All (λ x. All (λ y. (y +ℤ pos 1) ≤ℤ x) (y0 ∷ y1 ∷ y2 ∷ [])) (x0 ∷ x1 ∷ x2 ∷ []) → ⊥
+pub split : (a0 a1 a2 b0 b1 b2 : ℕ) (x0 x1 x2 y0 y1 y2 : ℤ) → 0 < a0 + a1 + a2 → 0 < b0 + b1 + b2 → pos (b0 + b1 + b2) *ℤ dot (pos a0) (pos a1) (pos a2) x0 x1 x2 ≡ pos (a0 + a1 + a2) *ℤ dot (pos b0) (pos b1) (pos b2) y0 y1 y2 → AllByRecursion (λ x. AllByRecursion (λ y. (y +ℤ pos 1) ≤ℤ x) (y0 ∷ y1 ∷ y2 ∷ [])) (x0 ∷ x1 ∷ x2 ∷ []) → ⊥
 split a0 a1 a2 b0 b1 b2 x0 x1 x2 y0 y1 y2 sa sb e h =
     clash (a0 + a1 + a2) (b0 + b1 + b2) (pos (b0 + b1 + b2) *ℤ dot (pos a0) (pos a1) (pos a2) x0 x1 x2) (pos (a0 + a1 + a2) *ℤ dot (pos b0) (pos b1) (pos b2) y0 y1 y2) (some (a0 + a1 + a2) (b0 + b1 + b2) sa sb) e
     (le_by (pos a0 ∷ pos a1 ∷ pos a2 ∷ pos b0 ∷ pos b1 ∷ pos b2 ∷ x0 ∷ x1 ∷ x2 ∷ y0 ∷ y1 ∷ y2 ∷ [])
@@ -100,5 +100,5 @@ split a0 a1 a2 b0 b1 b2 x0 x1 x2 y0 y1 y2 sa sb e h =
     row : Expr → Expr
     row x = dots (var 3) (var 4) (var 5) (x ⊖ (var 9 ⊕ # 1)) (x ⊖ (var 10 ⊕ # 1)) (x ⊖ (var 11 ⊕ # 1))
 
-    rest : (x : ℤ) → All (λ y. (y +ℤ pos 1) ≤ℤ x) (y0 ∷ y1 ∷ y2 ∷ []) → pos 0 ≤ℤ dot (pos b0) (pos b1) (pos b2) (x -ℤ (y0 +ℤ pos 1)) (x -ℤ (y1 +ℤ pos 1)) (x -ℤ (y2 +ℤ pos 1))
+    rest : (x : ℤ) → AllByRecursion (λ y. (y +ℤ pos 1) ≤ℤ x) (y0 ∷ y1 ∷ y2 ∷ []) → pos 0 ≤ℤ dot (pos b0) (pos b1) (pos b2) (x -ℤ (y0 +ℤ pos 1)) (x -ℤ (y1 +ℤ pos 1)) (x -ℤ (y2 +ℤ pos 1))
     rest x k = nat b0 ⊠ gap k.0 ⊞ nat b1 ⊠ gap k.1.0 ⊞ nat b2 ⊠ gap k.1.1.0

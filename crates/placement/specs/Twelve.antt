@@ -1,6 +1,6 @@
 -- The twelve numbers of a placement: the matrix row by row, then the shift.
 use Rattle.std.specs.Prelude.{◌≤◌, List, [], ◌∷◌, take, drop, ℤ, unsigned_abs}
-use Rattle.std.specs.List.{AllByRecursion as All}
+use Rattle.std.specs.List.{AllByRecursion}
 use Rattle.placement.specs.declared.parts.Placement.{Placement}
 use Rattle.placement.specs.Units.{matrix_limit, shift_limit}
 
@@ -11,4 +11,4 @@ entries p =
 
 -- the numbers of a list are in the ranges of their places
 unfoldable pub InRange : List ℤ → Type 0
-InRange n = All (λ z. unsigned_abs z ≤ matrix_limit) (take 9 n) × All (λ z. unsigned_abs z ≤ shift_limit) (drop 9 n)
+InRange n = AllByRecursion (λ z. unsigned_abs z ≤ matrix_limit) (take 9 n) × AllByRecursion (λ z. unsigned_abs z ≤ shift_limit) (drop 9 n)

@@ -1,6 +1,6 @@
 -- How a report ends.
 use Rattle.std.proofs.Common.{◌≡◌, ℕ, ◌+◌, ◌*◌, List, [], ◌∷◌, ◌++◌, length, take, drop, Option, sym, refl, ap, ◌∙◌, append_assoc, append-nil, arith}
-use Rattle.std.specs.List.{flat_map, AllByRecursion as All}
+use Rattle.std.specs.List.{flat_map, AllByRecursion}
 use Rattle.std.proofs.lemmas.List.{take-append-drop, length-take-le}
 use Rattle.book.specs.declared.call.Answer.{Answer}
 use Rattle.book.specs.declared.call.Answer.TheVariants.{Started, Entered, Filed, Removed, Listed, Refused}
@@ -21,7 +21,7 @@ module _ (lists : List (ℕ × ℕ)) (places : ℕ) (fault : Option Fault) where
   later k (Refused why ∷ rest) = later k rest
 
   -- accepted answers in front
-  front_first : (k : ℕ) (front rest : List Answer) (before behind : List Blame) → All Accepted front → length before ≡ length front → report_from lists places fault k (front ++ rest) (before ++ behind) ≡ comparisons lists places k front ++ report_from lists places fault (later k front) rest behind
+  front_first : (k : ℕ) (front rest : List Answer) (before behind : List Blame) → AllByRecursion Accepted front → length before ≡ length front → report_from lists places fault k (front ++ rest) (before ++ behind) ≡ comparisons lists places k front ++ report_from lists places fault (later k front) rest behind
   unfolding report_from comparisons later
   front_first k [] rest [] behind all long = refl
   front_first k [] rest (b ∷ before) behind all long = absurd (omega arith)

@@ -1,6 +1,6 @@
 -- How a report ends: with all that was compared, and then the first refusal or the fault of the text.
 use Rattle.std.specs.Prelude.{◌≡◌, ℕ, ◌+◌, ◌*◌, ◌≤◌, List, [], ◌∷◌, ◌++◌, length, take, drop, Option}
-use Rattle.std.specs.List.{flat_map, AllByRecursion as All}
+use Rattle.std.specs.List.{flat_map, AllByRecursion}
 use Rattle.book.specs.declared.call.Answer.{Answer}
 use Rattle.book.specs.declared.call.Answer.TheVariants.{Started, Entered, Filed, Removed, Listed, Refused}
 use Rattle.book.specs.declared.refusal.Refusal.{Refusal}
@@ -33,6 +33,6 @@ module _ (lists : List (ℕ × ℕ)) (places : ℕ) where
   -- the bytes of a report on so many answers, as many blames, and the fault of the text
   pub record Ends (fault : Option Fault) (answers : List Answer) (bs : List Blame) (report : List ℕ) : Type 0 where
     -- where no request is refused, all comparisons are reported, and then the fault of the text
-    pub whole : All Accepted answers → length answers ≤ length bs → report ≡ comparisons 0 answers ++ fault_line fault
+    pub whole : AllByRecursion Accepted answers → length answers ≤ length bs → report ≡ comparisons 0 answers ++ fault_line fault
     -- the first refusal ends the report: what was compared before it stays, and nothing after it counts
-    pub cut : (front : List Answer) (why : Refusal) (more : List Answer) (before : List Blame) (b : Blame) (behind : List Blame) → answers ≡ front ++ (Refused why ∷ more) → bs ≡ before ++ (b ∷ behind) → length before ≡ length front → All Accepted front → report ≡ comparisons 0 front ++ refusal_line_lem (number why) b
+    pub cut : (front : List Answer) (why : Refusal) (more : List Answer) (before : List Blame) (b : Blame) (behind : List Blame) → answers ≡ front ++ (Refused why ∷ more) → bs ≡ before ++ (b ∷ behind) → length before ≡ length front → AllByRecursion Accepted front → report ≡ comparisons 0 front ++ refusal_line_lem (number why) b

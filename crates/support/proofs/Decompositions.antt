@@ -2,7 +2,7 @@
 use Rattle.std.proofs.Common.{◌≡◌, ℕ, suc, ◌+◌, ◌-◌, ◌*◌, ◌<◌, ◌≤◌, Bool, true, false, cond, ◌&&◌, ◌||◌, T, eqb, ltb, leb, List, [], ◌∷◌, get_or, ℤ, pos, negsuc, ◌+ℤ◌, ◌-ℤ◌, ◌*ℤ◌, neg_ℤ, nat_abs, sym, refl, ap, ◌∙◌, subst, ap₂, arith, lit<, lit≤, eqb→eq, ltb→lt}
 use native.Mathlib.Nat as NatL
 use borrow.Author.Differences.{ints}
-use Rattle.std.specs.List.{AllByRecursion as All}
+use Rattle.std.specs.List.{AllByRecursion}
 use Rattle.integers.proofs.Order.{nat_abs_add}
 use Rattle.integers.proofs.Ring.{var, ◌⊕◌, ◌⊖◌, ◌⊗◌, ⊝, #, solve}
 use Rattle.hull.specs.declared.corner.Corner.{Corner}
@@ -33,7 +33,7 @@ on_axis : (P : Face → Type 0) (z : ℤ) (f : Face) → P f → P (behind f) �
 on_axis P (pos n) f a b = a
 on_axis P (negsuc n) f a b = b
 
-box_listed : (x y z : ℤ) → All (λ (w : Weight). Listed 6 w.on) (box_weights_lem x y z)
+box_listed : (x y z : ℤ) → AllByRecursion (λ (w : Weight). Listed 6 w.on) (box_weights_lem x y z)
 unfolding place
 box_listed x y z = (
   on_axis (Listed 6) x ex (record { within = lit< tt; found = refl }) (record { within = lit< tt; found = refl }),
@@ -67,11 +67,11 @@ box_amounts : (u : Direction) → total (λ (w : Weight). w.amount) (box_weights
 box_amounts u = omega (arith, size_of u.x ex, size_of u.y ey, size_of u.z ez)
 
 -- the axes have one entry each
-box_ranks : (x y z : ℤ) → All (λ (w : Weight). rank w.on ≡ 1) (box_weights_lem x y z)
+box_ranks : (x y z : ℤ) → AllByRecursion (λ (w : Weight). rank w.on ≡ 1) (box_weights_lem x y z)
 box_ranks x y z = (along_axis rank x ex refl, (along_axis rank y ey refl, (along_axis rank z ez refl, tt)))
 
 -- totals over weights on faces with one entry
-lengths_of : (ws : List Weight) → All (λ (w : Weight). rank w.on ≡ 1) ws → total (λ (w : Weight). w.amount * rank w.on) ws ≡ total (λ (w : Weight). w.amount) ws
+lengths_of : (ws : List Weight) → AllByRecursion (λ (w : Weight). rank w.on ≡ 1) ws → total (λ (w : Weight). w.amount * rank w.on) ws ≡ total (λ (w : Weight). w.amount) ws
 lengths_of [] h = refl
 lengths_of (w ∷ ws) h = ap₂ ◌+◌ (ap (λ (n : ℕ). w.amount * n) h.0 ∙ NatL.mul-one w.amount) (lengths_of ws h.1)
 
@@ -157,15 +157,15 @@ stacked_lengths w (x ∷ ws) h =
         omega (arith, NatL.mul-le-mul_left b g, NatL.mul-add b k l, NatL.add-mul (a - b) b k, ap (λ (n : ℕ). n * k) e)
 
 -- ---- sorted weights
-all_insert : (P : Weight → Type 0) (w : Weight) (ws : List Weight) → P w → All P ws → All P (insert w ws)
+all_insert : (P : Weight → Type 0) (w : Weight) (ws : List Weight) → P w → AllByRecursion P ws → AllByRecursion P (insert w ws)
 all_insert P w [] p h = (p, tt)
 all_insert P w (v ∷ vs) p h = by (leb v.amount w.amount) (all_insert P w vs p h.1)
   where
-    by : (t : Bool) → All P (insert w vs) → All P (cond t (w ∷ v ∷ vs) (v ∷ insert w vs))
+    by : (t : Bool) → AllByRecursion P (insert w vs) → AllByRecursion P (cond t (w ∷ v ∷ vs) (v ∷ insert w vs))
     by true r = (p, h)
     by false r = (h.0, r)
 
-all_sorted : (P : Weight → Type 0) (ws : List Weight) → All P ws → All P (sorted ws)
+all_sorted : (P : Weight → Type 0) (ws : List Weight) → AllByRecursion P ws → AllByRecursion P (sorted ws)
 all_sorted P [] h = tt
 all_sorted P (w ∷ ws) h = all_insert P w (sorted ws) h.0 (all_sorted P ws h.1)
 
@@ -209,7 +209,7 @@ small_first p q r h = record { small_x = omega (arith, h.one_x); small_y = omega
 -- what is known of the weights on the axes, in order
 pub record Sorted3 (u : Direction) (ws : List Weight) : Type 0 where
   pub ranked : Ranked ws
-  pub ones : All (λ (w : Weight). rank w.on ≡ 1) ws
+  pub ones : AllByRecursion (λ (w : Weight). rank w.on ≡ 1) ws
   pub spans : (v : Corner) → along u v ≡ sum_of (pull v) ws
   pub amounts : total (λ (w : Weight). w.amount) ws ≡ size u
 

@@ -2,7 +2,7 @@
 use Rattle.std.proofs.Common.{◌≡◌, ℕ, ◌-◌, ◌<◌, ◌≤◌, Bool, true, false, cond, not, T, leb, List, [], ◌∷◌, ℤ, pos, negsuc, ◌+ℤ◌, sym, refl, ap, ◌∙◌, subst, ap₂, arith, le→leb, leb→le}
 use lib.Dec.{nleb→lt}
 use lib.IntN.{zero-*ℤ, +ℤ_comm, +ℤ_assoc}
-use Rattle.std.specs.List.{AllByRecursion as All}
+use Rattle.std.specs.List.{AllByRecursion}
 use Rattle.hull.specs.declared.face.Face.{Face}
 use Rattle.hull.specs.declared.face.Weight.{Weight}
 use Rattle.hull.specs.Faces.{face, joined}
@@ -163,7 +163,7 @@ sorted_falls p q r n h =
 free : (g : List ℤ) (p q r : Weight) (n : ℕ) → Falls n (p ∷ q ∷ r ∷ []) → reach_on (stacked (p ∷ q ∷ r ∷ [])) g ≡ reach_on (stacked (sorted (p ∷ q ∷ r ∷ []))) g
 free g p q r n h = ap (λ (ws : List Weight). reach_on (stacked ws) g) (sorted_falls p q r n h)
 
-free_orders : (g : List ℤ) (a b c : Weight) → All (λ ws. (n : ℕ) → Falls n ws → reach_on (stacked ws) g ≡ reach_on (stacked (sorted (a ∷ b ∷ c ∷ []))) g) (orders (a ∷ b ∷ c ∷ []))
+free_orders : (g : List ℤ) (a b c : Weight) → AllByRecursion (λ ws. (n : ℕ) → Falls n ws → reach_on (stacked ws) g ≡ reach_on (stacked (sorted (a ∷ b ∷ c ∷ []))) g) (orders (a ∷ b ∷ c ∷ []))
 free_orders g a b c =
     let ab = change_first g in
     let bc = change_last g in (

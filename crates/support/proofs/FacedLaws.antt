@@ -2,7 +2,7 @@
 use Rattle.std.proofs.Common.{◌≡◌, ℕ, ◌+◌, ◌-◌, ◌*◌, ◌<◌, ◌≤◌, List, [], ◌∷◌, length, get_or, take, ℤ, pos, ◌+ℤ◌, ◌*ℤ◌, nat_abs, ◌≤ℤ◌, sym, refl, ◌∙◌, subst, arith}
 use native.Mathlib.Nat as NatL
 use borrow.Author.Differences.{ints}
-use Rattle.std.specs.List.{ContainsAt as Has, AllByRecursion as All}
+use Rattle.std.specs.List.{ContainsAt as Has, AllByRecursion}
 use Rattle.std.proofs.ByRecursion.{All-weaker, all-has, all_has_itself}
 use Rattle.std.proofs.lemmas.List.{get_or-map, get_or-take, length-take-le}
 use Rattle.integers.proofs.Order.{le_trans, mul_le_mul_left, nat_nonneg}
@@ -28,16 +28,16 @@ pub record Listed (n : ℕ) (f : Face) : Type 0 where
 -- the direction is the sum of the weights on their faces, which are among the first n
 pub record Decomposes (u : Direction) (n : ℕ) (ws : List Weight) : Type 0 where
   pub few : n ≤ 26
-  pub listed : All (λ (w : Weight). Listed n w.on) ws
+  pub listed : AllByRecursion (λ (w : Weight). Listed n w.on) ws
   pub spans : (v : Corner) → along u v ≡ sum_of (λ (w : Weight). pos w.amount *ℤ product w.on v) ws
   pub amounts : total (λ (w : Weight). w.amount) ws ≤ size u
   pub lengths : total (λ (w : Weight). w.amount * rank w.on) ws ≤ size u
   pub ranks : total (λ (w : Weight). rank w.on) ws ≤ 6
 
-all_of : {X : Type 0} (P : X → Type 0) (xs : List X) → ((x : X) → Has xs x → P x) → All P xs
+all_of : {X : Type 0} (P : X → Type 0) (xs : List X) → ((x : X) → Has xs x → P x) → AllByRecursion P xs
 all_of P xs f = All-weaker (Has xs) P f xs (all_has_itself xs)
 
-every : {X : Type 0} {P : X → Type 0} → ((x : X) → P x) → (xs : List X) → All P xs
+every : {X : Type 0} {P : X → Type 0} → ((x : X) → P x) → (xs : List X) → AllByRecursion P xs
 every f [] = tt
 every f (x ∷ xs) = (f x, every f xs)
 
@@ -109,7 +109,7 @@ module _ (u : Direction) (n : ℕ) (ws : List Weight) (d : Decomposes u n ws) (g
           (sum_mono (λ (w : Weight). pos w.amount *ℤ product w.on v) e ws (every (λ w. mul_le_mul_left (pos w.amount) (product w.on v) (top w.on (p ∷ c)) (nat_nonneg w.amount) (all-has (λ v. product w.on v ≤ℤ top w.on (p ∷ c)) (p ∷ c) v (top_over w.on (p ∷ c)) i)) ws)) over)
 
   -- the unrounded reach passes no product by more than the spread allows
-  near : (s : ℕ) (v : Corner) → All (Near s v) (p ∷ c) → unrounded_on ws (p ∷ c) ≤ℤ (along u v +ℤ pos (size u * s))
+  near : (s : ℕ) (v : Corner) → AllByRecursion (Near s v) (p ∷ c) → unrounded_on ws (p ∷ c) ≤ℤ (along u v +ℤ pos (size u * s))
   unfolding unrounded_on
   near s v l =
       subst (λ (z : ℤ). unrounded_on ws (p ∷ c) ≤ℤ (z +ℤ pos (size u * s))) (sym (d.spans v))
@@ -127,7 +127,7 @@ module _ (u : Direction) (n : ℕ) (ws : List Weight) (d : Decomposes u n ws) (g
 
   tight_from : (s : ℕ) → Spread s (p ∷ c) → Tight (reach_on ws g) u s (p ∷ c)
   tight_from s l =
-      All-weaker (λ v. All (Near s v) (p ∷ c)) (λ v. (pos reach_unit *ℤ reach_on ws g) ≤ℤ (along u v +ℤ pos (3 * (size u * (s + 8)) + slack)))
+      All-weaker (λ v. AllByRecursion (Near s v) (p ∷ c)) (λ v. (pos reach_unit *ℤ reach_on ws g) ≤ℤ (along u v +ℤ pos (3 * (size u * (s + 8)) + slack)))
       (λ v k. chain (pos reach_unit *ℤ reach_on ws g) (unrounded_on ws (p ∷ c)) (along u v) (size u * s) under (near s v k) refl) (p ∷ c) l
     where
       chain : (a b z : ℤ) (m : ℕ) → a ≤ℤ (b +ℤ pos (3 * size u + rounding)) → b ≤ℤ (z +ℤ pos m) → m ≡ size u * s → a ≤ℤ (z +ℤ pos (3 * (size u * (s + 8)) + slack))

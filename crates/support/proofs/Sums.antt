@@ -3,7 +3,7 @@ use Rattle.std.proofs.Common.{◌≡◌, ℕ, ◌+◌, Bool, true, false, cond, 
 use borrow.Author.Differences.{ints}
 use lib.IntN.{*ℤ-zero}
 use lib.Signed.{≤ℤ_refl}
-use Rattle.std.specs.List.{AllByRecursion as All}
+use Rattle.std.specs.List.{AllByRecursion}
 use Rattle.integers.proofs.Order.{add_le_add}
 use Rattle.integers.proofs.Laws.{mul_add, add_left_comm}
 use Rattle.hull.specs.declared.face.Weight.{Weight}
@@ -11,11 +11,11 @@ use Rattle.hull.specs.Weights.{insert, sorted, total}
 use Rattle.support.specs.Supports.{sum_of}
 
 module _ {X : Type 0} where
-  pub sum_mono : (a b : X → ℤ) (xs : List X) → All (λ x. a x ≤ℤ b x) xs → sum_of a xs ≤ℤ sum_of b xs
+  pub sum_mono : (a b : X → ℤ) (xs : List X) → AllByRecursion (λ x. a x ≤ℤ b x) xs → sum_of a xs ≤ℤ sum_of b xs
   sum_mono a b [] h = ≤ℤ_refl (pos 0)
   sum_mono a b (x ∷ xs) h = add_le_add (a x) (b x) (sum_of a xs) (sum_of b xs) h.0 (sum_mono a b xs h.1)
 
-  pub sum_le : (a b : X → ℤ) (k : X → ℕ) (xs : List X) → All (λ x. a x ≤ℤ (b x +ℤ pos (k x))) xs → sum_of a xs ≤ℤ (sum_of b xs +ℤ pos (total k xs))
+  pub sum_le : (a b : X → ℤ) (k : X → ℕ) (xs : List X) → AllByRecursion (λ x. a x ≤ℤ (b x +ℤ pos (k x))) xs → sum_of a xs ≤ℤ (sum_of b xs +ℤ pos (total k xs))
   sum_le a b k [] h = omega (arith, ints)
   sum_le a b k (x ∷ xs) h = add (a x) (b x) (sum_of a xs) (sum_of b xs) (k x) (total k xs) h.0 (sum_le a b k xs h.1)
     where

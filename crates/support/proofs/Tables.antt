@@ -2,7 +2,7 @@
 use Rattle.std.proofs.Common.{◌≡◌, ℕ, zero, suc, ◌+◌, ◌<◌, ◌≤◌, Bool, true, ◌&&◌, T, leb, List, [], ◌∷◌, ◌++◌, length, get_or, take, drop, set, replicate, ℤ, pos, negsuc, nat_abs, refl, ap, ◌∙◌, ap₂, le_of_suc-le-suc, add-one, arith, leb→le}
 use borrow.Author.Differences.{ints}
 use Rattle.std.specs.Int.{int_max}
-use Rattle.std.specs.List.{AllByRecursion as All}
+use Rattle.std.specs.List.{AllByRecursion}
 use Rattle.std.proofs.ByRecursion.{All-get_or, All-map}
 use Rattle.std.proofs.lemmas.List.{append-nil, take_all, drop_all, get_or-map, length-map}
 use Rattle.std.proofs.lemmas.Int.{clamps}
@@ -21,7 +21,7 @@ abbrev every : (Face → Bool) → List Face → Bool
 every t [] = true
 every t (f ∷ fs) = t f && every t fs
 
-small_from : (fs : List Face) → T (every small_test fs) → All Small fs
+small_from : (fs : List Face) → T (every small_test fs) → AllByRecursion Small fs
 small_from [] t = tt
 small_from (f ∷ fs) t =
     let s = left (small_test f) (every small_test fs) t in
@@ -71,7 +71,7 @@ supports_length p = length-map faces (λ f. kept (product f p))
 abbrev pub lowest : ℤ
 lowest = negsuc 32767
 
-pub larger_lowest : (n : ℕ) (s : List ℤ) → All (λ z. nat_abs z < 32768) s → larger (replicate n lowest) s ≡ take n s
+pub larger_lowest : (n : ℕ) (s : List ℤ) → AllByRecursion (λ z. nat_abs z < 32768) s → larger (replicate n lowest) s ≡ take n s
 larger_lowest zero s h = refl
 larger_lowest (suc n) [] h = refl
 larger_lowest (suc n) (z ∷ s) h = ap₂ ◌∷◌ (above z h.0) (larger_lowest n s h.1)
@@ -83,6 +83,6 @@ pub raised_lowest : (n : ℕ) (p : Corner) → raised (replicate n lowest) p ≡
 unfolding raised supports
 raised_lowest n p = larger_lowest n (supports p) (All-map (λ z. nat_abs z < 32768) (λ f. kept (product f p)) faces (small faces (small_from faces tt)))
   where
-    small : (fs : List Face) → All Small fs → All (λ f. nat_abs (kept (product f p)) < 32768) fs
+    small : (fs : List Face) → AllByRecursion Small fs → AllByRecursion (λ f. nat_abs (kept (product f p)) < 32768) fs
     small [] h = tt
     small (f ∷ fs) h = let k = kept_small f p [] in let s = h.0 in (omega arith, small fs h.1)

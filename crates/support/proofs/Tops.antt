@@ -5,7 +5,7 @@ use native.Mathlib.Nat as NatL
 use borrow.Author.Differences.{ints}
 use lib.Signed.{lt_z, ≤ℤ_refl}
 use Rattle.std.specs.Int.{int_max}
-use Rattle.std.specs.List.{AllByRecursion as All}
+use Rattle.std.specs.List.{AllByRecursion}
 use Rattle.std.proofs.lemmas.Int.{clamps}
 use Rattle.std.proofs.ByRecursion.{All-weaker}
 use Rattle.std.proofs.lemmas.List.{take-map}
@@ -31,13 +31,13 @@ module _ {X : Type 0} (e : X → ℤ) where
   largest_from m [] = ≤ℤ_refl m
   largest_from m (x ∷ xs) = le_trans m (int_max m (e x)) (largest e m (x ∷ xs)) (max_left m (e x)) (largest_from (int_max m (e x)) xs)
 
-  pub largest_over : (m : ℤ) (xs : List X) → All (λ x. e x ≤ℤ largest e m xs) xs
+  pub largest_over : (m : ℤ) (xs : List X) → AllByRecursion (λ x. e x ≤ℤ largest e m xs) xs
   largest_over m [] = tt
   largest_over m (x ∷ xs) =
       (le_trans (e x) (int_max m (e x)) (largest e m (x ∷ xs)) (max_right m (e x)) (largest_from (int_max m (e x)) xs), largest_over (int_max m (e x)) xs)
 
   -- it has whatever all values have
-  pub largest_has : (P : ℤ → Type 0) (m : ℤ) (xs : List X) → P m → All (λ x. P (e x)) xs → P (largest e m xs)
+  pub largest_has : (P : ℤ → Type 0) (m : ℤ) (xs : List X) → P m → AllByRecursion (λ x. P (e x)) xs → P (largest e m xs)
   largest_has P m [] p h = p
   largest_has P m (x ∷ xs) p h = largest_has P (int_max m (e x)) xs (either (lt_z (e x) m)) h.1
     where
@@ -107,12 +107,12 @@ near_product f s v w h =
     add3 a b d x y z l m n k f g h e = omega (arith, ints)
 
 -- d bounds the product with each corner
-pub top_over : (f : Face) (c : List Corner) → All (λ v. product f v ≤ℤ top f c) c
+pub top_over : (f : Face) (c : List Corner) → AllByRecursion (λ v. product f v ≤ℤ top f c) c
 top_over f [] = tt
 top_over f (v ∷ c) = (largest_from (product f) (product f v) c, largest_over (product f) (product f v) c)
 
 -- and passes none by more than the spread allows
-pub top_near : (f : Face) (s : ℕ) (v : Corner) (p : Corner) (c : List Corner) → All (Near s v) (p ∷ c) → top f (p ∷ c) ≤ℤ (product f v +ℤ pos (rank f * s))
+pub top_near : (f : Face) (s : ℕ) (v : Corner) (p : Corner) (c : List Corner) → AllByRecursion (Near s v) (p ∷ c) → top f (p ∷ c) ≤ℤ (product f v +ℤ pos (rank f * s))
 top_near f s v p c h =
     largest_has (product f) (λ z. z ≤ℤ (product f v +ℤ pos (rank f * s))) (product f p) c (near_product f s v p h.0)
     (All-weaker (Near s v) (λ w. product f w ≤ℤ (product f v +ℤ pos (rank f * s))) (λ w l. near_product f s v w l) c h.1)
@@ -121,7 +121,7 @@ top_near f s v p c h =
 pub kept_small : (f : Face) (p : Corner) (c : List Corner) → nat_abs (kept (top f (p ∷ c))) ≤ rank f * support_limit
 kept_small f p c = quarter (top f (p ∷ c)) (rank f) (largest_has (product f) (λ z. nat_abs z ≤ rank f * corner_limit) (product f p) c (small_product f p) (every c))
   where
-    every : (c : List Corner) → All (λ v. nat_abs (product f v) ≤ rank f * corner_limit) c
+    every : (c : List Corner) → AllByRecursion (λ v. nat_abs (product f v) ≤ rank f * corner_limit) c
     every [] = tt
     every (v ∷ c) = (small_product f v, every c)
 

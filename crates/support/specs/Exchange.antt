@@ -1,6 +1,6 @@
 -- Equal absolute values may change places.
 use Rattle.std.specs.Prelude.{◌≡◌, ℕ, List, [], ◌∷◌, ℤ}
-use Rattle.std.specs.List.{AllByRecursion as All}
+use Rattle.std.specs.List.{AllByRecursion}
 use Rattle.hull.specs.declared.face.Weight.{Weight}
 use Rattle.hull.specs.Weights.{box_weights_lem, stacked, Falls}
 use Rattle.support.specs.Supports.{reach_on}
@@ -15,4 +15,4 @@ orders (a ∷ b ∷ c ∷ d ∷ ws) = []
 
 -- whichever order puts no absolute value before a larger one, r is the reach over the support values g
 unfoldable pub InAnyOrder : List ℤ → ℤ → ℤ → ℤ → ℤ → Type 0
-InAnyOrder g x y z r = All (λ ws. (n : ℕ) → Falls n ws → reach_on (stacked ws) g ≡ r) (orders (box_weights_lem x y z))
+InAnyOrder g x y z r = AllByRecursion (λ ws. (n : ℕ) → Falls n ws → reach_on (stacked ws) g ≡ r) (orders (box_weights_lem x y z))

@@ -1,7 +1,7 @@
 -- What is due in a job.
 use Rattle.std.specs.Prelude.{◌≡◌, ℕ, ◌+◌, ◌<◌, ◌⊎◌, List, [], ◌∷◌, ◌++◌, map, length, ℤ}
 use Rattle.std.specs.Str.Parse.{digits_value}
-use Rattle.std.specs.List.{AllByRecursion as All}
+use Rattle.std.specs.List.{AllByRecursion}
 use Rattle.touch.specs.declared.fault.Fault.{Fault}
 use Rattle.touch.specs.declared.fault.Fault.TheVariants.{WrongWord, WrongLength}
 use Rattle.touch.specs.declared.fault.Refusal.{Refusal}
@@ -24,12 +24,12 @@ Numbered before n after = (w : List ℕ) × (before ≡ w ∷ after) × Number w
 
 -- the first of the words are numbers of these values, and these are the others
 abbrev pub AllNumbered : List (List ℕ) → List ℤ → List (List ℕ) → Type 0
-AllNumbered before ns after = (ws : List (List ℕ)) × (before ≡ ws ++ after) × All Number ws × (ns ≡ map amount ws)
+AllNumbered before ns after = (ws : List (List ℕ)) × (before ≡ ws ++ after) × AllByRecursion Number ws × (ns ≡ map amount ws)
 
 -- of n numbers that are due after word k of the section, some are there, and the next is missing or is not right
 abbrev pub BrokenOff : ℕ → List (List ℕ) → Section → ℕ → Refusal → Type 0
 BrokenOff n before s k e =
-    (ws : List (List ℕ)) × (rest : List (List ℕ)) × (before ≡ ws ++ rest) × All Number ws × (length ws < n) × Misfit Number rest s (k + length ws + 1) e
+    (ws : List (List ℕ)) × (rest : List (List ℕ)) × (before ≡ ws ++ rest) × AllByRecursion Number ws × (length ws < n) × Misfit Number rest s (k + length ws + 1) e
 
 -- of n numbers that are due after word k of the section, one is missing or is no number, or they are out of range
 abbrev pub NotRead : ℕ → (List ℤ → Type 0) → Fault → List (List ℕ) → Section → ℕ → Refusal → Type 0

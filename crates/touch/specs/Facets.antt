@@ -1,6 +1,6 @@
 -- A facet and its nine numbers.
 use Rattle.std.specs.Prelude.{◌≤◌, List, [], ◌∷◌, ℤ, unsigned_abs}
-use Rattle.std.specs.List.{AllByRecursion as All}
+use Rattle.std.specs.List.{AllByRecursion}
 use Rattle.hull.specs.declared.corner.Corner.{Corner}
 use Rattle.hull.specs.Units.{corner_limit}
 use Rattle.touch.specs.declared.facet.Facet.{Facet}
@@ -14,4 +14,4 @@ entries f = f.a.x ∷ f.a.y ∷ f.a.z ∷ f.b.x ∷ f.b.y ∷ f.b.z ∷ f.c.x �
 
 -- the numbers of a list are in the range of a corner's
 unfoldable pub InRange : List ℤ → Type 0
-InRange n = All (λ z. unsigned_abs z ≤ corner_limit) n
+InRange n = AllByRecursion (λ z. unsigned_abs z ≤ corner_limit) n

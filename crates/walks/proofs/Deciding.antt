@@ -1,7 +1,7 @@
 -- Whether some axis parts two hulls, as a test.
 use Rattle.std.proofs.Common.{◌≡◌, ℕ, Bool, true, false, ◌||◌, T, ◌⊎◌, List, [], ◌∷◌, ℤ, pos, sym, refl, subst, inl, inr, ⊎_elim, arith}
 use lib.Signed.{lt_z, lt_z_yes}
-use Rattle.std.specs.List.{ContainsAt as Has, AllByRecursion as All}
+use Rattle.std.specs.List.{ContainsAt as Has, AllByRecursion}
 use Rattle.std.proofs.ByRecursion.{all-has, has_get_or, has_append_right}
 use Rattle.hull.specs.declared.direction.Direction.{Direction}
 use Rattle.placement.specs.declared.parts.Placement.{Placement}
@@ -53,11 +53,11 @@ module _ (f g : Direction → ℤ) (p : Placement) where
       (λ e. let r = some_is ls e in (r.0, has_append_right (l ∷ []) ls r.0 r.1, r.2))
       (or_cases (parts? l) (some? ls) h)
 
-  none_of : (ls : List Axis) → some? ls ≡ false → All (λ l. parts? l ≡ false) ls
+  none_of : (ls : List Axis) → some? ls ≡ false → AllByRecursion (λ l. parts? l ≡ false) ls
   none_of [] h = tt
   none_of (l ∷ ls) h = by (parts? l) refl h (none_of ls)
     where
-      by : (b : Bool) → parts? l ≡ b → (b || some? ls) ≡ false → (some? ls ≡ false → All (λ l. parts? l ≡ false) ls) → (parts? l ≡ false) × All (λ l. parts? l ≡ false) ls
+      by : (b : Bool) → parts? l ≡ b → (b || some? ls) ≡ false → (some? ls ≡ false → AllByRecursion (λ l. parts? l ≡ false) ls) → (parts? l ≡ false) × AllByRecursion (λ l. parts? l ≡ false) ls
       by true e h r = absurd (let z : ◌≡◌ {A = ℕ} 0 1 = cc in omega arith)
       by false e h r = (e, r h)
 

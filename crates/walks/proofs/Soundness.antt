@@ -1,7 +1,7 @@
 -- The list of a comparison is complete, tight and, for kinds with faces, exact.
 use Rattle.std.proofs.Common.{◌≡◌, ℕ, suc, ◌-◌, ◌<◌, true, List, [], ◌∷◌, ◌++◌, length, ℤ, fold, sym, ap, ◌∙◌, subst, subst₂, ⊎_elim, append_assoc, arith}
 use mathlib.Core.List.{Memᴰ}
-use Rattle.std.specs.List.{ContainsAt as Has, AllByRecursion as All}
+use Rattle.std.specs.List.{ContainsAt as Has, AllByRecursion}
 use Rattle.std.proofs.ByRecursion.{all_has_itself, All-weaker, has_append_left, has_append_right}
 use Rattle.std.proofs.lemmas.List.{append-nil}
 use Rattle.hull.specs.declared.corner.Corner.{Corner}
@@ -64,8 +64,8 @@ module _ (o : List Item) (good : sane o ≡ true) (whole : Whole o) where
           by (tie x y q t a b d) = absurd (let w = e ∙ t in let v : ◌≡◌ {A = ℕ} 0 1 = cc in omega arith)
 
 -- the corners of a leaf inside a tree are among those of the tree
-corners_inside : {m : ℕ} {e : Facet} {t : Tree} → Inside (leaf m e) t → All (Has (corners t)) (corners_of e)
-corners_inside {e = e} (in_tree.itself h) = subst (λ (t : Tree). All (Has (corners t)) (corners_of e)) h (all_has_itself (corners_of e))
+corners_inside : {m : ℕ} {e : Facet} {t : Tree} → Inside (leaf m e) t → AllByRecursion (Has (corners t)) (corners_of e)
+corners_inside {e = e} (in_tree.itself h) = subst (λ (t : Tree). AllByRecursion (Has (corners t)) (corners_of e)) h (all_has_itself (corners_of e))
 corners_inside {e = e} (in_tree.first {x = x} {y = y} w) = All-weaker (Has (corners x)) (Has (corners x ++ corners y)) (λ v i. has_append_left (corners x) (corners y) v i) (corners_of e) (corners_inside w)
 corners_inside {e = e} (in_tree.second {x = x} {y = y} w) = All-weaker (Has (corners y)) (Has (corners x ++ corners y)) (λ v i. has_append_right (corners x) (corners y) v i) (corners_of e) (corners_inside w)
 

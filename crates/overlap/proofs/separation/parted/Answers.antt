@@ -1,5 +1,5 @@
 use Rattle.std.proofs.Common.{◌<◌, ◌≤◌, T, length, sym, subst, arith}
-use Rattle.std.specs.List.{AllByRecursion as All}
+use Rattle.std.specs.List.{AllByRecursion}
 use Rattle.std.proofs.ByRecursion.{All-more}
 use Rattle.std.proofs.lemmas.List.{take_all}
 use Rattle.pairs.specs.Units.{axis_count}
@@ -46,7 +46,7 @@ returns g c =
     let p = a.placement in
     let n = each_length p a.each a.are_its in
     let h : length c.args.axes.now.each ≤ c.loop-axis.axis-index = omega arith in
-    let no = none_parts p a.each a.are_its f k (subst (All (λ s. Parts f k s → ⊥)) (take_all c.loop-axis.axis-index a.each h) c.loop-axis.invariant) in
+    let no = none_parts p a.each a.are_its f k (subst (AllByRecursion (λ s. Parts f k s → ⊥)) (take_all c.loop-axis.axis-index a.each h) c.loop-axis.invariant) in
     record {
       found = λ t. absurd t;
       missed = no;

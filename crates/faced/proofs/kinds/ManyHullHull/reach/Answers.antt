@@ -1,5 +1,5 @@
 use Rattle.std.proofs.Common.{◌<◌, List, sym, ap, ◌∙◌, subst, lit<, w64}
-use Rattle.std.specs.List.{AllByRecursion as All}
+use Rattle.std.specs.List.{AllByRecursion}
 use Rattle.std.proofs.lemmas.Int.{to_z-of_z}
 use Rattle.hull.specs.declared.face.FaceWeight.{FaceWeight}
 use Rattle.hull.specs.Weights.{many_weights_lem}
@@ -12,7 +12,7 @@ use Rattle.faced.proofs.kinds.ManyHullHull.reach.Goals as goal
 pub reach_along-requires : goal.reach_along-requires
 reach_along-requires c =
     let u = c.args.u.now in
-    (lit< tt, subst (λ (ws : List FaceWeight). All (λ (w : FaceWeight). w.face < 26) ws) (sym u.on_many) (faces_within 26 (many_weights_lem u.x u.y u.z) (many_decomposes u).listed))
+    (lit< tt, subst (λ (ws : List FaceWeight). AllByRecursion (λ (w : FaceWeight). w.face < 26) ws) (sym u.on_many) (faces_within 26 (many_weights_lem u.x u.y u.z) (many_decomposes u).listed))
 
 pub returns : goal.returns
 returns c =
