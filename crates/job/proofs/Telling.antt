@@ -1,5 +1,5 @@
 -- From a script to the reading that it tells of.
-use Rattle.std.proofs.Common.{◌≡◌, ℕ, List, length, vec_items, Option, sym, ap, ◌∙◌, subst, subst₂}
+use Rattle.std.proofs.Common.{◌≡◌, ℕ, List, length, vec_items, Option, sym, ap, ◌∙◌, subst₂}
 use Rattle.std.proofs.lemmas.List.{length-map}
 use Rattle.book.specs.declared.call.Request.{Request}
 use Rattle.jobtext.specs.declared.fault.Blame.{Blame}
