@@ -23,6 +23,19 @@ APART = {
 # Names of two crates that do not meet.
 ALIKE = {"kind_of"}
 
+# Parameters and names of imports, which are respelled too.
+PARAMETERS = {
+    "answers-before",
+    "fits-h",
+    "fits-k",
+    "lists-before",
+    "placement-entries",
+    "reaches-h",
+    "reaches-k",
+    "whole-o",
+    "whole-q",
+}
+
 # What has the name of a Rust function or of a field gets the ending _lem.
 AS_FUNCTIONS = {
     "axes-of",
@@ -89,7 +102,7 @@ def snake(name):
 
 
 def table(top):
-    own = set()
+    own = set(PARAMETERS)
     for path in files(top):
         if path.endswith(".antt"):
             own |= set(declared(read(path)))

@@ -1,5 +1,5 @@
 -- Hulls that grow from corner lists.
-use Rattle.std.specs.Prelude.{◌≡◌, ℕ, ◌<◌, List, [], ◌∷◌, length, get_or, fold, slice_index_or}
+use Rattle.std.specs.Prelude.{◌≡◌, ℕ, ◌<◌, List, [], ◌∷◌, length, fold, slice_index_or}
 use Rattle.hull.specs.declared.corner.Corner.{Corner}
 use Rattle.book.specs.declared.item.Item.{Item}
 use Rattle.book.specs.declared.ledger.Span.{Span}
@@ -20,4 +20,4 @@ module _ {H : Type 0} (begun : Corner → H) (grown : H → Corner → H) where
   -- so are the hulls of the draft and of every object
   pub record GrownOver (l : Ledger) (items : List Item) (hs : List H) : Type 0 where
     pub page : GrownPage (drafted l items) (drafted l hs)
-    pub object : (k : ℕ) (d : Span) → k < l.closed → GrownPage (slice (get_or l.spans k d).from (get_or l.spans k d).to items) (slice (get_or l.spans k d).from (get_or l.spans k d).to hs)
+    pub object : (k : ℕ) (d : Span) → k < l.closed → GrownPage (slice (slice_index_or l.spans k d).from (slice_index_or l.spans k d).to items) (slice (slice_index_or l.spans k d).from (slice_index_or l.spans k d).to hs)

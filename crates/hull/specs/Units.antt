@@ -30,7 +30,7 @@ abbrev pub support_limit : ℕ
 support_limit = 8192
 
 -- by how much so many times a reach may pass the unrounded reach, besides what grows with the direction: a rounded weight is up to
--- weight-unit - 1 off, and the three faces of a direction have at most six entries that are not 0
+-- weight_unit - 1 off, and the three faces of a direction have at most six entries that are not 0
 abbrev pub rounding : ℕ
 rounding = support_unit * (weight_unit - 1) * (6 * support_limit)
 

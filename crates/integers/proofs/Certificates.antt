@@ -1,4 +1,4 @@
--- Inequalities by a certificate. `le-by env a b s refl h` proves a ≤ b where b - a is, as a polynomial, the expression s,
+-- Inequalities by a certificate. `le_by env a b s refl h` proves a ≤ b where b - a is, as a polynomial, the expression s,
 -- and h says that s is not negative; h is put together by `⊞`, `⊠`, `square` and `nat` from facts 0 ≤ p.
 use Rattle.std.proofs.Common.{◌≡◌, ℕ, suc, ◌*◌, List, ℤ, pos, negsuc, ◌+ℤ◌, ◌-ℤ◌, ◌*ℤ◌, ◌≤ℤ◌, sym, subst}
 use Rattle.integers.proofs.Order.{le_of_sub, sub_nonneg, add_nonneg, mul_nonneg, nat_nonneg}

@@ -42,7 +42,7 @@ sizes : (moved_size p l ≡ 268855040) × (standing_size l ≡ 375390208)
 unfolding axis_at axes_of_lem turned moved_direction direction
 sizes = (refl, refl)
 
--- L-as-T
+-- L·T
 shift_product : shift_along p l ≡ pos 36586656
 unfolding axis_at axes_of_lem turned
 shift_product = refl

@@ -17,7 +17,7 @@ use Rattle.pairs.specs.Facets.{Facet, Weights, Meets, SharesPoint}
 abbrev pub dots : Expr → Expr → Expr → Expr → Expr → Expr → Expr
 dots a b c x y z = a ⊗ x ⊕ b ⊗ y ⊕ c ⊗ z
 
--- L-as-X(v) = u·v + 256 × L-as-T
+-- L·X(v) = u·v + 256 × L·T
 pub moved_along : (p : Placement) (l : Axis) (v : Corner) → image_along p l v ≡ toward (moved_direction p l) v +ℤ pos shift_unit *ℤ shift_along p l
 unfolding moved_direction direction
 moved_along p l v =

@@ -36,7 +36,7 @@ exchanged a b t = omega (arith, ints)
 not_over : (z : ℤ) → (pos 0 <ℤ z → ⊥) → z ≤ℤ pos 0
 not_over z h = by_lt_z (pos 0) z (λ l. absurd (h l)) (λ l. l)
 
--- m is L-as-X(v), n is W L·w, a is u·v and t the shift
+-- m is L·X(v), n is W L·w, a is u·v and t the shift
 above_by : (m n a b t : ℤ) → m ≡ a +ℤ t → b ≡ n → (b +ℤ pos 1) ≤ℤ (a +ℤ t) → (n +ℤ pos 1) ≤ℤ m
 above_by m n a b t e k h = omega (arith, ints)
 

@@ -25,7 +25,7 @@ image r t v = dot r.x r.y r.z v.x v.y v.z +ℤ pos shift_unit *ℤ t
 abbrev pub along : Axis → ℤ → ℤ → ℤ → ℤ
 along l x y z = dot l.x l.y l.z x y z
 
--- L-as-X(v), for a corner v of the moved piece
+-- L·X(v), for a corner v of the moved piece
 abbrev pub image_along : Placement → Axis → Corner → ℤ
 image_along p l v = along l (image p.x p.shift.x v) (image p.y p.shift.y v) (image p.z p.shift.z v)
 
@@ -33,7 +33,7 @@ image_along p l v = along l (image p.x p.shift.x v) (image p.y p.shift.y v) (ima
 abbrev pub corner_along : Axis → Corner → ℤ
 corner_along l w = pos W *ℤ along l w.x w.y w.z
 
--- L-as-T
+-- L·T
 abbrev pub shift_along : Placement → Axis → ℤ
 shift_along p l = along l p.shift.x p.shift.y p.shift.z
 

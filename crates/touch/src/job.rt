@@ -1,6 +1,6 @@
 // Reads a job and compares its objects.
 ghost use Rattle.std.specs.Prelude.{◌≡◌, ◌<◌, length, IfOk, Err, string_bytes, MatchResult};
-ghost use Rattle.placement.specs.Twelve.{InRange as PlacementInRange, entries as placement-entries};
+ghost use Rattle.placement.specs.Twelve.{InRange as PlacementInRange, entries as placement_entries};
 ghost use Rattle.touch.specs.declared.facet.Facet.{Facet as FacetOf};
 ghost use Rattle.touch.specs.declared.fault.Fault.TheVariants.{CornerOutOfRange, PlacementOutOfRange};
 ghost use Rattle.touch.specs.Due.{AllNumbered, NotRead};
@@ -53,7 +53,7 @@ fn read_object<H: Hull>(input: &mut Words, facets: Section, ties: Section) -> Re
 
 // The placement that is due.
 fn read_placement(input: &mut Words) -> Result<Placement, Refusal>
-    ensures { MatchResult result (λ p. AllNumbered (words input.old.rest.now) (placement-entries p) (words input.new.rest.now)) (λ e. NotRead 12 PlacementInRange PlacementOutOfRange (words input.old.rest.now) input.old.section input.old.taken e) }
+    ensures { MatchResult result (λ p. AllNumbered (words input.old.rest.now) (placement_entries p) (words input.new.rest.now)) (λ e. NotRead 12 PlacementInRange PlacementOutOfRange (words input.old.rest.now) input.old.section input.old.taken e) }
 {
     let numbers = input.numbers::<12>()?;
     match Placement::new(numbers) {

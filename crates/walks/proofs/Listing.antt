@@ -38,14 +38,14 @@ module _ {H : Type 0} {begun : Corner → H} {grown : H → Corner → H} {reach
   listing w =
       let good_o = (complete_parts o a).0 in
       let good_q = (complete_parts q b).0 in
-      let whole-o = whole_from o a in
-      let whole-q = whole_from q b in
+      let whole_o = whole_from o a in
+      let whole_q = whole_from q b in
       record {
         walk = w;
         few = few_tests o q a b w;
-        complete = sound.complete begun grown reaches fits k.one k.another k.covers k.tight o q good_o good_q whole-o whole-q p w (some_item o a) (some_item q b);
-        tight = sound.near begun grown reaches fits k.one k.another k.covers k.tight o q good_o good_q whole-o whole-q p w (some_item o a) (some_item q b);
-        exact = λ has. sound.exact begun grown reaches fits k.one k.another k.covers k.tight o q good_o good_q whole-o whole-q p w faced unrounded k.rounds has (some_item o a) (some_item q b);
+        complete = sound.complete begun grown reaches fits k.one k.another k.covers k.tight o q good_o good_q whole_o whole_q p w (some_item o a) (some_item q b);
+        tight = sound.near begun grown reaches fits k.one k.another k.covers k.tight o q good_o good_q whole_o whole_q p w (some_item o a) (some_item q b);
+        exact = λ has. sound.exact begun grown reaches fits k.one k.another k.covers k.tight o q good_o good_q whole_o whole_q p w faced unrounded k.rounds has (some_item o a) (some_item q b);
       }
 
   -- of a walk over the stored hulls

@@ -82,7 +82,7 @@ module _ {H : Type 0} (begun : Corner → H) (grown : H → Corner → H) (reach
   fits_tree (node n t u) = fits_more (hull_of_lem begun grown reaches t) (corners t) (corners u) (fits_tree t)
 
   module _ (covers : (h : H) (c : List Corner) (u : Direction) → fits h c → Covers (reaches h u) u c) (tight : (h : H) (c : List Corner) (u : Direction) (s : ℕ) → fits h c → Spread s c → measure.Tight (reaches h u) u s c)
-      (o q : List Item) (good_o : sane o ≡ true) (good_q : sane q ≡ true) (whole-o : Whole o) (whole-q : Whole q) (p : Placement) {pairs : List (ℕ × ℕ)} {tests : ℕ} (walk : Walk (PartedItems begun grown reaches p) (root o good_o whole-o) (root q good_q whole-q) pairs tests) where
+      (o q : List Item) (good_o : sane o ≡ true) (good_q : sane q ≡ true) (whole_o : Whole o) (whole_q : Whole q) (p : Placement) {pairs : List (ℕ × ℕ)} {tests : ℕ} (walk : Walk (PartedItems begun grown reaches p) (root o good_o whole_o) (root q good_q whole_q) pairs tests) where
     abbrev hull : Tree → H
     hull = hull_of_lem begun grown reaches
 
@@ -97,7 +97,7 @@ module _ {H : Type 0} (begun : Corner → H) (grown : H → Corner → H) (reach
     unfolding TouchingUnparted
     shared m n e f i j s = ⊎_elim (λ l. l)
         (λ r. absurd (touching r.above r.above' (corners r.above) (corners r.above') (fits_tree r.above) (fits_tree r.above') (triangle e) (triangle f) (corners_inside r.over_moved) (corners_inside r.over_standing) s r.parts))
-        (listed_or_parted (PartedItems begun grown reaches p) walk (facet_inside o good_o whole-o m e i) (facet_inside q good_q whole-q n f j))
+        (listed_or_parted (PartedItems begun grown reaches p) walk (facet_inside o good_o whole_o m e i) (facet_inside q good_q whole_q n f j))
 
     last_sep : (o : List Item) (good : sane o ≡ true) (m : ℕ) → m < length o → Separate (tree o (length o - 1))
     last_sep o good m h = separate o good (length o) (length o - 1) (omega arith) (omega arith)
@@ -109,7 +109,7 @@ module _ {H : Type 0} (begun : Corner → H) (grown : H → Corner → H) (reach
     listed : 0 < length o → 0 < length q → (m n : ℕ) → Memᴰ (m, n) pairs → (e : Facet) × (f : Facet) × IsFacet o m e × IsFacet q n f × (PartedItems begun grown reaches p (leaf m e) (leaf n f) → ⊥)
     listed lo lq m n l =
         let r = listed_facets (PartedItems begun grown reaches p) walk l in
-        (r.moved, r.standing, (leaf_under o good_o whole-o (length o - 1) m r.moved (omega arith) r.in_moved).0, (leaf_under q good_q whole-q (length q - 1) n r.standing (omega arith) r.in_standing).0, r.unparted)
+        (r.moved, r.standing, (leaf_under o good_o whole_o (length o - 1) m r.moved (omega arith) r.in_moved).0, (leaf_under q good_q whole_q (length q - 1) n r.standing (omega arith) r.in_standing).0, r.unparted)
 
     one_facet : (o : List Item) (m : ℕ) (e f : Facet) → IsFacet o m e → IsFacet o m f → e ≡ f
     one_facet o m e f i j = let z = sym i.is ∙ j.is in cc
@@ -129,13 +129,13 @@ module _ {H : Type 0} (begun : Corner → H) (grown : H → Corner → H) (reach
 
     -- a kind with unrounded reaches
     module _ (faced : Type 0) (unrounded : List Corner → Direction → ℤ) (rounds : (h : H) (c : List Corner) (u : Direction) → faced → fits h c → Rounds (reaches h u) (unrounded c u) u) (has : faced) (lo : 0 < length o) (lq : 0 < length q) where
-      above : (m n : ℕ) (e f : Facet) → listing.PartedAbove (PartedItems begun grown reaches p) (leaf m e) (leaf n f) (root o good_o whole-o) (root q good_q whole-q) → PartedAbove o q p pairs unrounded m n
+      above : (m n : ℕ) (e f : Facet) → listing.PartedAbove (PartedItems begun grown reaches p) (leaf m e) (leaf n f) (root o good_o whole_o) (root q good_q whole_q) → PartedAbove o q p pairs unrounded m n
       unfolding Parted PartedUnrounded
       above m n e f r =
           let a = inside_found o good_o (length o) (length o - 1) (omega arith) (omega arith) r.above r.in_moved in
           let b = inside_found q good_q (length q) (length q - 1) (omega arith) (omega arith) r.above' r.in_standing in
-          let x = leaf_under o good_o whole-o a.at m e a.there (subst (Inside (leaf m e)) a.is r.over_moved) in
-          let y = leaf_under q good_q whole-q b.at n f b.there (subst (Inside (leaf n f)) b.is r.over_standing) in
+          let x = leaf_under o good_o whole_o a.at m e a.there (subst (Inside (leaf m e)) a.is r.over_moved) in
+          let y = leaf_under q good_q whole_q b.at n f b.there (subst (Inside (leaf n f)) b.is r.over_standing) in
           let k = subst₂ (PartedItems begun grown reaches p) a.is b.is r.parts in
           record {
             i = a.at;
@@ -150,7 +150,7 @@ module _ {H : Type 0} (begun : Corner → H) (grown : H → Corner → H) (reach
       pub exact : Exact o q p pairs unrounded
       unfolding UnpartedUnroundedNear
       exact = record {
-        left_out = λ m n e f i j no. ⊎_elim (λ l. absurd (no l)) (above m n e f) (listed_or_parted (PartedItems begun grown reaches p) walk (facet_inside o good_o whole-o m e i) (facet_inside q good_q whole-q n f j));
+        left_out = λ m n e f i j no. ⊎_elim (λ l. absurd (no l)) (above m n e f) (listed_or_parted (PartedItems begun grown reaches p) walk (facet_inside o good_o whole_o m e i) (facet_inside q good_q whole_q n f j));
         close = λ m n e f l i j.
             unparted_unrounded_near p (fits (hull (leaf m e))) (fits (hull (leaf n f))) (reaches (hull (leaf m e))) (reaches (hull (leaf n f))) faced unrounded (rounds (hull (leaf m e))) (rounds (hull (leaf n f))) (PartedItems begun grown reaches p (leaf m e) (leaf n f)) (λ k. k) has (corners_of e) (corners_of f) (fits_tree (leaf m e)) (fits_tree (leaf n f)) (listed_unparted lo lq m n e f l i j);
       }

@@ -30,9 +30,9 @@ module _ {H : Type 0} (begun : Corner → H) (grown : H → Corner → H) (reach
 
   -- a register over so many places was opened; as many calls were made as there are places for answers; the other places for answers,
   -- and the places behind the last comparison's stretch, keep what they held
-  pub record Replayed (mark table : ℕ) (requests : List Request) (answers-before answers : List Answer) (places : ℕ) (lists-before lists : List (ℕ × ℕ)) : Type 0 where
+  pub record Replayed (mark table : ℕ) (requests : List Request) (answers_before answers : List Answer) (places : ℕ) (lists_before lists : List (ℕ × ℕ)) : Type 0 where
     pub last : Book
     pub comparisons : ℕ
-    pub ran : Ran places lists-before lists 0 (opened mark table) (take (min (length requests) (length answers-before)) requests) (take (min (length requests) (length answers-before)) answers) comparisons last
-    pub answers_kept : drop (min (length requests) (length answers-before)) answers ≡ drop (min (length requests) (length answers-before)) answers-before
-    pub lists_kept : drop (comparisons * places) lists ≡ drop (comparisons * places) lists-before
+    pub ran : Ran places lists_before lists 0 (opened mark table) (take (min (length requests) (length answers_before)) requests) (take (min (length requests) (length answers_before)) answers) comparisons last
+    pub answers_kept : drop (min (length requests) (length answers_before)) answers ≡ drop (min (length requests) (length answers_before)) answers_before
+    pub lists_kept : drop (comparisons * places) lists ≡ drop (comparisons * places) lists_before
