@@ -1,5 +1,9 @@
 // The calls of a register, and what they answer.
+ghost use Rattle.std.specs.Prelude.{Some};
+ghost use Rattle.book.specs.Answers.{told};
+
 use super::refusal::Refusal;
+use std::fmt;
 
 // A call that writes. All but the first are made with a draft, and carry its mark.
 #[derive(Clone, Copy)]
@@ -27,7 +31,9 @@ pub enum Request {
 }
 
 // What a call answers. A comparison lists so many pairs after so many tests.
-#[derive(Clone, Copy)]
+//
+// A refusal is one answer among the others: a history is a list of them, in which each is told in one match.
+#[derive(Clone, Copy, Debug, PartialEq, Eq)]
 pub enum Answer {
     Started,
     Entered(u32),
@@ -35,4 +41,20 @@ pub enum Answer {
     Removed(u32),
     Listed(usize, u64),
     Refused(Refusal),
+}
+
+// An answer in words, a refusal by its number.
+impl fmt::Display for Answer {
+    ghost output = { λ a. Some (told a) };
+
+    fn fmt<W: fmt::Write>(&self, f: &mut fmt::Formatter<W>) -> fmt::Result {
+        match self {
+            Answer::Started => f.write_str("started"),
+            Answer::Entered(item) => write!(f, "entered {item}"),
+            Answer::Filed(object) => write!(f, "filed {object}"),
+            Answer::Removed(items) => write!(f, "removed {items}"),
+            Answer::Listed(pairs, tests) => write!(f, "listed {pairs} {tests}"),
+            Answer::Refused(why) => write!(f, "refused {why}"),
+        }
+    }
 }

@@ -9,4 +9,4 @@ mod refusal;
 pub use call::{Answer, Call, Comparison, Request};
 pub use item::{Facet, Item};
 pub use ledger::{Ledger, Span};
-pub use refusal::Refusal;
+pub use refusal::{NoRefusal, Refusal};
