@@ -1,14 +1,15 @@
 // How far two corners are apart.
-ghost use Rattle.std.specs.Prelude.{◌≡◌, ◌*◌, ◌^◌, ◌≤◌};
+ghost use Rattle.std.specs.Prelude.{◌≡◌, ◌*◌, ◌^◌, ◌≤◌, ◌-ℤ◌, unsigned_abs};
 ghost use Rattle.ball.specs.Balls.{apart, distance_up};
 
 use hull::Corner;
 
-fn square(a: u16) -> u64
-    ensures value { result ≡ a * a }
+// The square of the difference of two entries.
+fn square(a: i16, b: i16) -> u64
+    ensures value { result ≡ unsigned_abs (a -ℤ b) * unsigned_abs (a -ℤ b) }
     ensures bound { result ≤ 2 ^ 32 }
 {
-    a as u64 * a as u64
+    integers::square(a.abs_diff(b) as u32)
 }
 
 // The square of the distance.
@@ -16,7 +17,7 @@ fn squared_distance(p: Corner, q: Corner) -> u64
     ensures value { result ≡ apart p q }
     ensures bound { result ≤ 3 * 2 ^ 32 }
 {
-    square(p.x.abs_diff(q.x)) + square(p.y.abs_diff(q.y)) + square(p.z.abs_diff(q.z))
+    square(p.x, q.x) + square(p.y, q.y) + square(p.z, q.z)
 }
 
 // The distance, rounded up.

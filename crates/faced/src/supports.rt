@@ -6,7 +6,7 @@ ghost use Rattle.support.specs.Supports.{product, kept, supports, raised};
 
 use hull::{Corner, Face, FaceWeight};
 
-const SUPPORT_UNIT: i32 = 4;
+const SUPPORT_UNIT: u32 = 4;
 
 // Where each face looks.
 const FACES: [Face; 26] = [
@@ -65,11 +65,7 @@ fn round_up(d: i32) -> i16
     requires { unsigned_abs d ≤ 3 * corner_limit }
     ensures { result ≡ kept d }
 {
-    if d < 0 {
-        (d / SUPPORT_UNIT) as i16
-    } else {
-        ((d + (SUPPORT_UNIT - 1)) / SUPPORT_UNIT) as i16
-    }
+    integers::div_up(d as i128, SUPPORT_UNIT) as i16
 }
 
 // The support value of one corner on the face at a place of the list.
@@ -85,7 +81,7 @@ pub(crate) fn raise(values: &mut [i16], p: &Corner)
     requires { length values.old ≤ 26 }
     ensures { values.new ≡ raised values.old p.now }
 {
-    for i in 0..values.len() {
-        values[i] = values[i].max(support_of(i, p));
+    for (i, value) in values.iter_mut().enumerate() {
+        *value = (*value).max(support_of(i, p));
     }
 }

@@ -2,6 +2,8 @@
 ghost use Rattle.std.specs.Prelude.{◌≡◌, ◌≤◌, MatchOption, unsigned_abs};
 ghost use Rattle.hull.specs.Units.{corner_limit, Within};
 
+use super::range::within;
+
 #[derive(Clone, Copy)]
 pub struct Corner {
     pub x: i16,
@@ -19,7 +21,7 @@ impl Corner {
     pub fn new(x: i64, y: i64, z: i64) -> Option<Corner>
         ensures { MatchOption result (Within corner_limit x y z → ⊥) (λ p. (p.x ≡ x) × (p.y ≡ y) × (p.z ≡ z)) }
     {
-        if x.unsigned_abs() <= LIMIT && y.unsigned_abs() <= LIMIT && z.unsigned_abs() <= LIMIT {
+        if within(LIMIT, x, y, z) {
             Some(Corner {
                 x: x as i16,
                 y: y as i16,

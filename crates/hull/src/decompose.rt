@@ -76,12 +76,12 @@ fn place_of(f: Face) -> u8
 
 // A weight as a direction keeps it.
 pub(crate) fn divide(w: Weight) -> FaceWeight
-    requires { (w.amount ≤ direction_limit) × (Small w.on) }
+    requires { Small w.on }
     ensures { result ≡ divided w }
 {
     FaceWeight {
         face: place_of(w.on),
-        up: (w.amount + (WEIGHT_UNIT - 1)) / WEIGHT_UNIT,
+        up: w.amount.div_ceil(WEIGHT_UNIT),
         down: w.amount / WEIGHT_UNIT,
     }
 }

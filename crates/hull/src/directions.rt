@@ -1,11 +1,12 @@
 // Directions from three numbers.
-ghost use Rattle.std.specs.Prelude.{◌≡◌, ◌*◌, ◌≤◌, MatchOption};
+ghost use Rattle.std.specs.Prelude.{◌≡◌, ◌*◌, ◌≤◌, MatchOption, unsigned_abs};
 ghost use Rattle.integers.specs.Roots.{root_up};
 ghost use Rattle.hull.specs.Units.{direction_limit, squared, Within};
 
 use super::decompose::{divide, entry_on, on_many};
 use super::direction::Direction;
 use super::face::Face;
+use super::range::within;
 
 const LIMIT: u64 = 2415919104;
 
@@ -15,12 +16,13 @@ const Y_AXIS: Face = Face { x: 0, y: 1, z: 0 };
 
 const Z_AXIS: Face = Face { x: 0, y: 0, z: 1 };
 
-fn square(a: u64) -> u64
-    requires { a ≤ direction_limit }
-    ensures value { result ≡ a * a }
+// The square of an entry.
+fn square(z: i64) -> u64
+    requires { unsigned_abs z ≤ direction_limit }
+    ensures value { result ≡ unsigned_abs z * unsigned_abs z }
     ensures bound { result ≤ direction_limit * direction_limit }
 {
-    a * a
+    integers::square(z.unsigned_abs() as u32)
 }
 
 // The root of the sum of the squares, rounded up.
@@ -28,7 +30,7 @@ fn length_of(x: i64, y: i64, z: i64) -> u32
     requires { Within direction_limit x y z }
     ensures { result ≡ root_up (squared x y z) }
 {
-    let sum = square(x.unsigned_abs()) + square(y.unsigned_abs()) + square(z.unsigned_abs());
+    let sum = square(x) + square(y) + square(z);
     integers::ceil_root(sum) as u32
 }
 
@@ -55,7 +57,7 @@ impl Direction {
     pub fn new(x: i64, y: i64, z: i64) -> Option<Direction>
         ensures { MatchOption result (Within direction_limit x y z → ⊥) (λ u. (u.x ≡ x) × (u.y ≡ y) × (u.z ≡ z)) }
     {
-        if x.unsigned_abs() <= LIMIT && y.unsigned_abs() <= LIMIT && z.unsigned_abs() <= LIMIT {
+        if within(LIMIT, x, y, z) {
             Some(direction_of(x, y, z))
         } else {
             None

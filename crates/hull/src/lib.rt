@@ -7,8 +7,10 @@ mod direction;
 mod directions;
 mod face;
 mod kind;
+mod range;
 
 pub use corner::Corner;
 pub use direction::Direction;
 pub use face::{Face, FaceWeight};
 pub use kind::{Hull, Named};
+pub use range::within;

@@ -3,6 +3,7 @@
 
 ghost use Rattle.std.specs.Prelude.{◌≡◌, ◌*◌, ◌^◌, ◌≤◌, ◌+ℤ◌, ◌*ℤ◌, unsigned_abs};
 ghost use Rattle.integers.specs.Roots.{root_up};
+ghost use Rattle.integers.specs.Rounding.{div_up};
 
 // The root of `n`, rounded up.
 pub fn ceil_root(n: u64) -> u64
@@ -27,4 +28,24 @@ pub fn dot(a: i64, b: i64, c: i64, x: i32, y: i32, z: i32) -> i128
     ensures bound { unsigned_abs result ≤ 3 * 2 ^ 94 }
 {
     product(a, x) + product(b, y) + product(c, z)
+}
+
+// A number in units of so many, rounded up; in units of none, 0.
+#[inline(always)]
+pub fn div_up(z: i128, unit: u32) -> i128
+    ensures { result ≡ div_up z unit }
+{
+    if unit == 0 {
+        return 0;
+    }
+    let quotient = z / unit as i128;
+    let rest = z % unit as i128;
+    if rest > 0 { quotient + 1 } else { quotient }
+}
+
+// The square of a number, in a width that holds it.
+pub fn square(a: u32) -> u64
+    ensures { result ≡ a * a }
+{
+    a as u64 * a as u64
 }
