@@ -1,5 +1,5 @@
 // The reach of a hull with faces.
-ghost use Rattle.std.specs.Prelude.{◌≡◌, ◌^◌, ◌<◌, ◌≤◌, length, ℤ, pos, ◌*ℤ◌, unsigned_abs};
+ghost use Rattle.std.specs.Prelude.{◌≡◌, ◌^◌, ◌<◌, ◌≤◌, ℤ, pos, ◌*ℤ◌, unsigned_abs};
 ghost use Rattle.hull.specs.declared.face.FaceWeight.{FaceWeight as Kept};
 ghost use Rattle.std.specs.List.{AllByRecursion};
 ghost use Rattle.faced.specs.Terms.{counted, term, terms};

@@ -1,10 +1,10 @@
 // Support values on the faces of a hull, and what they add to a reach.
-ghost use Rattle.std.specs.Prelude.{◌≡◌, ◌*◌, ◌<◌, ◌≤◌, [], ◌∷◌, length, ℤ, pos, ◌*ℤ◌, slice_index_or, unsigned_abs};
+ghost use Rattle.std.specs.Prelude.{◌≡◌, ◌*◌, ◌<◌, ◌≤◌, ℤ, pos, ◌*ℤ◌, slice_index_or, unsigned_abs};
 ghost use Rattle.hull.specs.Units.{corner_limit};
-ghost use Rattle.hull.specs.Faces.{faces, no_face, Small};
+ghost use Rattle.hull.specs.Faces.{Small};
 ghost use Rattle.support.specs.Supports.{product, kept, supports, raised};
 
-use hull::{Corner, Face, FaceWeight};
+use hull::{Corner, Face};
 
 const SUPPORT_UNIT: u32 = 4;
 
@@ -77,8 +77,8 @@ fn support_of(face: usize, p: &Corner) -> i16
 }
 
 // Support values with one more corner.
-pub(crate) fn raise(values: &mut [i16], p: &Corner)
-    requires { length values.old ≤ 26 }
+pub(crate) fn raise<const N: usize>(values: &mut [i16; N], p: &Corner)
+    requires { N ≤ 26 }
     ensures { values.new ≡ raised values.old p.now }
 {
     for (i, value) in values.iter_mut().enumerate() {

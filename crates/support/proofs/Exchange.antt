@@ -1,14 +1,16 @@
 -- Equal absolute values may change places.
 use Rattle.std.proofs.Common.{◌≡◌, ℕ, ◌-◌, ◌<◌, ◌≤◌, Bool, true, false, cond, not, T, leb, List, [], ◌∷◌, ℤ, pos, negsuc, ◌+ℤ◌, sym, refl, ap, ◌∙◌, subst, ap₂, arith, le→leb, leb→le}
 use lib.Dec.{nleb→lt}
+use Rattle.std.proofs.lemmas.Int.{ints}
 use lib.IntN.{zero-*ℤ, +ℤ_comm, +ℤ_assoc}
 use Rattle.std.specs.List.{AllByRecursion}
+use Rattle.hull.specs.declared.direction.Direction.{Direction}
 use Rattle.hull.specs.declared.face.Face.{Face}
 use Rattle.hull.specs.declared.face.Weight.{Weight}
 use Rattle.hull.specs.Faces.{face, joined}
-use Rattle.hull.specs.Weights.{entry, insert, sorted, stacked, many_weights_lem, Falls}
-use Rattle.support.specs.Supports.{share, support, reach_on}
-use Rattle.support.specs.Exchange.{orders, InAnyOrder}
+use Rattle.hull.specs.Weights.{entry, insert, sorted, stacked, box_weights_lem, many_weights_lem, Falls}
+use Rattle.support.specs.Supports.{share, support, sum_of, reach_on}
+use Rattle.support.specs.Exchange.{orders, InAnyOrderAs}
 
 -- ---- a test of an order, and what it says
 leb_true : (m n : ℕ) → m ≤ n → leb m n ≡ true
@@ -183,8 +185,21 @@ free_orders g a b c =
       ),
     )
 
-pub in_any_order : (g : List ℤ) (x y z r : ℤ) → r ≡ reach_on (many_weights_lem x y z) g → InAnyOrder g x y z r
-unfolding InAnyOrder
-in_any_order g x y z r e =
-    subst (λ (k : ℤ). InAnyOrder g x y z k) (sym e)
-    (free_orders g (entry x (face (pos 1) (pos 0) (pos 0))) (entry y (face (pos 0) (pos 1) (pos 0))) (entry z (face (pos 0) (pos 0) (pos 1))))
+pub many_in_any_order : (u : Direction) (g : List ℤ) → InAnyOrderAs stacked g u.x u.y u.z (reach_on (many_weights_lem u.x u.y u.z) g)
+unfolding InAnyOrderAs
+many_in_any_order u g = free_orders g (entry u.x (face (pos 1) (pos 0) (pos 0))) (entry u.y (face (pos 0) (pos 1) (pos 0))) (entry u.z (face (pos 0) (pos 0) (pos 1)))
+
+-- ---- weights that stay on the axes may come in any order
+sum_orders : (e : Weight → ℤ) (a b c : Weight) → AllByRecursion (λ ws. (n : ℕ) → Falls n ws → sum_of e ws ≡ sum_of e (a ∷ b ∷ c ∷ [])) (orders (a ∷ b ∷ c ∷ []))
+sum_orders e a b c = let s = turned (e a) (e b) (e c) in (λ n h. refl, (λ n h. s.0, (λ n h. s.1, (λ n h. s.2, (λ n h. s.3, (λ n h. s.4, tt))))))
+  where
+    three : ℤ → ℤ → ℤ → ℤ
+    three x y z = x +ℤ (y +ℤ (z +ℤ pos 0))
+
+    turned : (x y z : ℤ) → (three x z y ≡ three x y z) × (three y x z ≡ three x y z) × (three y z x ≡ three x y z) × (three z x y ≡ three x y z) × (three z y x ≡ three x y z)
+    turned x y z = (omega (arith, ints), omega (arith, ints), omega (arith, ints), omega (arith, ints), omega (arith, ints))
+
+pub box_in_any_order : (u : Direction) (g : List ℤ) → InAnyOrderAs (λ ws. ws) g u.x u.y u.z (reach_on (box_weights_lem u.x u.y u.z) g)
+unfolding InAnyOrderAs reach_on
+box_in_any_order u g =
+    sum_orders (λ (w : Weight). share w.amount (support g w.on)) (entry u.x (face (pos 1) (pos 0) (pos 0))) (entry u.y (face (pos 0) (pos 1) (pos 0))) (entry u.z (face (pos 0) (pos 0) (pos 1)))

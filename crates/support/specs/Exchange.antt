@@ -13,6 +13,11 @@ orders (a ∷ b ∷ []) = []
 orders (a ∷ b ∷ c ∷ []) = (a ∷ b ∷ c ∷ []) ∷ (a ∷ c ∷ b ∷ []) ∷ (b ∷ a ∷ c ∷ []) ∷ (b ∷ c ∷ a ∷ []) ∷ (c ∷ a ∷ b ∷ []) ∷ (c ∷ b ∷ a ∷ []) ∷ []
 orders (a ∷ b ∷ c ∷ d ∷ ws) = []
 
--- whichever order puts no absolute value before a larger one, r is the reach over the support values g
-unfoldable pub InAnyOrder : List ℤ → ℤ → ℤ → ℤ → ℤ → Type 0
-InAnyOrder g x y z r = AllByRecursion (λ ws. (n : ℕ) → Falls n ws → reach_on (stacked ws) g ≡ r) (orders (box_weights_lem x y z))
+-- whichever order of a direction's weights on the axes puts no absolute value before a larger one, r is the reach over the support values
+-- g of the weights that they are arranged to
+unfoldable pub InAnyOrderAs : (List Weight → List Weight) → List ℤ → ℤ → ℤ → ℤ → ℤ → Type 0
+InAnyOrderAs arranged g x y z r = AllByRecursion (λ ws. (n : ℕ) → Falls n ws → reach_on (arranged ws) g ≡ r) (orders (box_weights_lem x y z))
+
+-- the same, of weights that are stacked
+abbrev pub InAnyOrder : List ℤ → ℤ → ℤ → ℤ → ℤ → Type 0
+InAnyOrder g x y z r = InAnyOrderAs stacked g x y z r

@@ -4,4 +4,4 @@ use Rattle.support.proofs.Tables.{raised_to}
 use Rattle.faced.proofs.supports.raise.Given as goal
 
 abbrev pub invariant-loop-i : goal.invariant-loop-i
-invariant-loop-i l = l.values ≡ raised_to l.i l.initial.values (supports l.p)
+invariant-loop-i g l = l.values ≡ raised_to l.i l.initial.values (supports l.p)
