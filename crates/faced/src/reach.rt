@@ -6,19 +6,13 @@ ghost use Rattle.faced.specs.Terms.{counted, term, terms};
 
 use hull::FaceWeight;
 
-fn times(n: u32, g: i16) -> i64
-    ensures value { result ≡ pos n *ℤ g }
-    ensures bound { unsigned_abs result ≤ 2 ^ 47 }
-{
-    n as i64 * g as i64
-}
-
 // A weight's part of the reach, at the support value of its face.
 fn part(w: &FaceWeight, g: i16) -> i64
     ensures value { result ≡ counted w.now g }
     ensures bound { unsigned_abs result ≤ 2 ^ 47 }
 {
-    times(if g < 0 { w.down } else { w.up }, g)
+    let n = if g < 0 { w.down } else { w.up };
+    integers::product(n as i64, g as i32) as i64
 }
 
 // The sum of the three parts.

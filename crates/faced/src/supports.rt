@@ -1,5 +1,5 @@
 // Support values on the faces of a hull, and what they add to a reach.
-ghost use Rattle.std.specs.Prelude.{◌≡◌, ◌*◌, ◌<◌, ◌≤◌, ℤ, pos, ◌*ℤ◌, slice_index_or, unsigned_abs};
+ghost use Rattle.std.specs.Prelude.{◌≡◌, ◌*◌, ◌<◌, ◌≤◌, ℤ, pos, slice_index_or, unsigned_abs};
 ghost use Rattle.hull.specs.Units.{corner_limit};
 ghost use Rattle.hull.specs.Faces.{Small};
 ghost use Rattle.support.specs.Supports.{product, kept, supports, raised};
@@ -42,30 +42,23 @@ const FACES: [Face; 26] = [
     },
 ];
 
-// The product of an entry of a face and one of a corner.
-fn entry_product(a: i8, b: i16) -> i32
-    requires { (unsigned_abs a ≤ 1) × (unsigned_abs b ≤ corner_limit) }
-    ensures value { result ≡ a *ℤ b }
-    ensures bound { unsigned_abs result ≤ corner_limit }
-{
-    a as i32 * b as i32
-}
-
 // The product of a face and a corner.
-fn face_product(f: Face, p: &Corner) -> i32
+fn face_product(f: Face, p: &Corner) -> i128
     requires { Small f }
     ensures value { result ≡ product f p.now }
     ensures bound { unsigned_abs result ≤ 3 * corner_limit }
 {
-    entry_product(f.x, p.x) + entry_product(f.y, p.y) + entry_product(f.z, p.z)
+    integers::dot(
+        f.x as i64, f.y as i64, f.z as i64, p.x as i32, p.y as i32, p.z as i32,
+    )
 }
 
 // A product in units of so many, rounded up.
-fn round_up(d: i32) -> i16
+fn round_up(d: i128) -> i16
     requires { unsigned_abs d ≤ 3 * corner_limit }
     ensures { result ≡ kept d }
 {
-    integers::div_up(d as i128, SUPPORT_UNIT) as i16
+    integers::div_up(d, SUPPORT_UNIT) as i16
 }
 
 // The support value of one corner on the face at a place of the list.
