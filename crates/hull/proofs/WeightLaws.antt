@@ -1,7 +1,7 @@
 -- Weights in order, and the faces that they stand on.
-use Rattle.std.proofs.Common.{◌≡◌, ℕ, ◌+◌, ◌≤◌, Bool, true, false, cond, not, T, leb, List, [], ◌∷◌, ℤ, pos, negsuc, ◌+ℤ◌, nat_abs, sym, refl, ap, ◌∙◌, subst, arith, leb→le}
-use borrow.Author.Differences.{ints}
-use lib.Dec.{nleb→lt}
+use Rattle.std.proofs.Common.{◌≡◌, ℕ, ◌+◌, ◌≤◌, Bool, true, false, cond, leb, List, [], ◌∷◌, ℤ, pos, negsuc, ◌+ℤ◌, nat_abs, sym, refl, ap, ◌∙◌, subst, arith}
+use Rattle.std.proofs.lemmas.Int.{ints}
+use Rattle.std.proofs.lemmas.Bool.{leb-true, leb-false}
 use Rattle.std.specs.List.{AllByRecursion}
 use Rattle.hull.specs.declared.face.Face.{Face}
 use Rattle.hull.specs.declared.face.Weight.{Weight}
@@ -28,9 +28,9 @@ falls_insert n w [] h f = (h, tt)
 falls_insert n w (v ∷ vs) h f = by (leb v.amount w.amount) refl (falls_insert v.amount w vs)
   where
     by : (t : Bool) → leb v.amount w.amount ≡ t → (w.amount ≤ v.amount → Falls v.amount vs → Falls v.amount (insert w vs)) → Falls n (cond t (w ∷ v ∷ vs) (v ∷ insert w vs))
-    by true e r = (h, (leb→le v.amount w.amount (subst T (sym e) tt), f.1))
+    by true e r = (h, (leb-true v.amount w.amount e, f.1))
     by false e r =
-        let l = nleb→lt v.amount w.amount (subst (λ (t : Bool). T (not t)) (sym e) tt) in
+        let l = leb-false v.amount w.amount e in
         (f.0, r (omega arith) f.1)
 
 pub falls_sorted : (n : ℕ) (ws : List Weight) → AllByRecursion (λ (w : Weight). w.amount ≤ n) ws → Falls n (sorted ws)

@@ -14,7 +14,7 @@ const PLACES: [u8; 27] = [
     18,
 ];
 
-// The face that looks the other way.
+// The face that looks the other way. Not `-f`, nor `e + f` below: an operator would be public, and allowed at small faces alone.
 fn opposite(f: Face) -> Face
     requires { Small f }
     ensures { result ≡ behind f }
@@ -44,7 +44,7 @@ pub(crate) fn entry_on(z: i64, axis: Face) -> Weight
     }
 }
 
-// The three weights, the largest first.
+// The three weights, the largest first, and of two equals the one that came first. The library's sort that keeps such an order takes heap.
 fn sort(a: Weight, b: Weight, c: Weight) -> (Weight, Weight, Weight)
     ensures { result.0 ∷ result.1 ∷ result.2 ∷ [] ≡ sorted (a ∷ b ∷ c ∷ []) }
 {

@@ -1,6 +1,6 @@
 -- Equal absolute values may change places.
-use Rattle.std.proofs.Common.{◌≡◌, ℕ, ◌-◌, ◌<◌, ◌≤◌, Bool, true, false, cond, not, T, leb, List, [], ◌∷◌, ℤ, pos, negsuc, ◌+ℤ◌, sym, refl, ap, ◌∙◌, subst, ap₂, arith, le→leb, leb→le}
-use lib.Dec.{nleb→lt}
+use Rattle.std.proofs.Common.{◌≡◌, ℕ, ◌-◌, ◌<◌, ◌≤◌, Bool, true, false, cond, leb, List, [], ◌∷◌, ℤ, pos, negsuc, ◌+ℤ◌, sym, refl, ap, ◌∙◌, subst, ap₂, arith}
+use Rattle.std.proofs.lemmas.Bool.{leb-true, leb-false, le-leb, lt-leb}
 use Rattle.std.proofs.lemmas.Int.{ints}
 use lib.IntN.{zero-*ℤ, +ℤ_comm, +ℤ_assoc}
 use Rattle.std.specs.List.{AllByRecursion}
@@ -12,47 +12,33 @@ use Rattle.hull.specs.Weights.{entry, insert, sorted, stacked, box_weights_lem, 
 use Rattle.support.specs.Supports.{share, support, sum_of, reach_on}
 use Rattle.support.specs.Exchange.{orders, InAnyOrderAs}
 
--- ---- a test of an order, and what it says
-leb_true : (m n : ℕ) → m ≤ n → leb m n ≡ true
-leb_true m n h = is (leb m n) (le→leb m n h)
-  where
-    is : (b : Bool) → T b → b ≡ true
-    is true t = refl
-    is false t = absurd t
-
-leb_false : (m n : ℕ) → n < m → leb m n ≡ false
-leb_false m n h = is (leb m n) refl
-  where
-    is : (b : Bool) → leb m n ≡ b → b ≡ false
-    is true e = absurd (let l = leb→le m n (subst T (sym e) tt) in omega arith)
-    is false e = refl
-
+-- ---- three ways in which two numbers compare
 by_order : {P : Type 0} (m n : ℕ) → (m < n → P) → (m ≡ n → P) → (n < m → P) → P
 by_order {P} m n f g h = first (leb n m) refl
   where
     second : n ≤ m → (b : Bool) → leb m n ≡ b → P
-    second l true e = g (let k = leb→le m n (subst T (sym e) tt) in omega arith)
-    second l false e = h (nleb→lt m n (subst (λ (b : Bool). T (not b)) (sym e) tt))
+    second l true e = let k = leb-true m n e in g (omega arith)
+    second l false e = h (leb-false m n e)
 
     first : (b : Bool) → leb n m ≡ b → P
-    first true e = second (leb→le n m (subst T (sym e) tt)) (leb m n) refl
-    first false e = f (nleb→lt n m (subst (λ (b : Bool). T (not b)) (sym e) tt))
+    first true e = second (leb-true n m e) (leb m n) refl
+    first false e = f (leb-false n m e)
 
 -- ---- where two weights differ, the order in which they are inserted does not matter
 insert_comm : (a b : Weight) (ws : List Weight) → b.amount < a.amount → insert a (insert b ws) ≡ insert b (insert a ws)
 insert_comm a b [] h =
-    ap (λ (t : Bool). cond t (a ∷ b ∷ []) (b ∷ a ∷ [])) (leb_true b.amount a.amount (omega arith))
-    ∙ sym (ap (λ (t : Bool). cond t (b ∷ a ∷ []) (a ∷ b ∷ [])) (leb_false a.amount b.amount h))
+    ap (λ (t : Bool). cond t (a ∷ b ∷ []) (b ∷ a ∷ [])) (le-leb b.amount a.amount (omega arith))
+    ∙ sym (ap (λ (t : Bool). cond t (b ∷ a ∷ []) (a ∷ b ∷ [])) (lt-leb a.amount b.amount h))
 insert_comm a b (c ∷ ws) h = by (leb c.amount b.amount) refl (leb c.amount a.amount) refl (insert_comm a b ws h)
   where
     ab : leb a.amount b.amount ≡ false
-    ab = leb_false a.amount b.amount h
+    ab = lt-leb a.amount b.amount h
 
     by : (s : Bool) → leb c.amount b.amount ≡ s → (t : Bool) → leb c.amount a.amount ≡ t → insert a (insert b ws) ≡ insert b (insert a ws) → insert a (cond s (b ∷ c ∷ ws) (c ∷ insert b ws)) ≡ insert b (cond t (a ∷ c ∷ ws) (c ∷ insert a ws))
     by true e true f r =
-        ap (λ (t : Bool). cond t (a ∷ b ∷ c ∷ ws) (b ∷ insert a (c ∷ ws))) (leb_true b.amount a.amount (omega arith))
+        ap (λ (t : Bool). cond t (a ∷ b ∷ c ∷ ws) (b ∷ insert a (c ∷ ws))) (le-leb b.amount a.amount (omega arith))
         ∙ sym (ap₂ (λ (s t : Bool). cond s (b ∷ a ∷ c ∷ ws) (a ∷ cond t (b ∷ c ∷ ws) (c ∷ insert b ws))) ab e)
-    by true e false f r = absurd (let l = leb→le c.amount b.amount (subst T (sym e) tt) in let k = nleb→lt c.amount a.amount (subst (λ (t : Bool). T (not t)) (sym f) tt) in omega arith)
+    by true e false f r = absurd (let l = leb-true c.amount b.amount e in let k = leb-false c.amount a.amount f in omega arith)
     by false e true f r =
         ap (λ (t : Bool). cond t (a ∷ c ∷ insert b ws) (c ∷ insert a (insert b ws))) f
         ∙ sym (ap₂ (λ (s t : Bool). cond s (b ∷ a ∷ c ∷ ws) (a ∷ cond t (b ∷ c ∷ ws) (c ∷ insert b ws))) ab e)
@@ -120,22 +106,22 @@ module _ (g : List ℤ) where
     where
       by : (t : Bool) → leb c.amount b.amount ≡ t → reach_of (sorted (a ∷ b ∷ c ∷ [])) ≡ reach_of (sorted (b ∷ a ∷ c ∷ []))
       by true f =
-          ap reach_of (ap (insert a) (ap (λ (t : Bool). cond t (b ∷ c ∷ []) (c ∷ b ∷ [])) f) ∙ ap (λ (t : Bool). cond t (a ∷ b ∷ c ∷ []) (b ∷ insert a (c ∷ []))) (leb_true b.amount a.amount (omega arith)))
+          ap reach_of (ap (insert a) (ap (λ (t : Bool). cond t (b ∷ c ∷ []) (c ∷ b ∷ [])) f) ∙ ap (λ (t : Bool). cond t (a ∷ b ∷ c ∷ []) (b ∷ insert a (c ∷ []))) (le-leb b.amount a.amount (omega arith)))
           ∙ front a b c e
-          ∙ sym (ap reach_of (ap (insert b) (ap (λ (t : Bool). cond t (a ∷ c ∷ []) (c ∷ a ∷ [])) (ap (leb c.amount) e ∙ f)) ∙ ap (λ (t : Bool). cond t (b ∷ a ∷ c ∷ []) (a ∷ insert b (c ∷ []))) (leb_true a.amount b.amount (omega arith))))
+          ∙ sym (ap reach_of (ap (insert b) (ap (λ (t : Bool). cond t (a ∷ c ∷ []) (c ∷ a ∷ [])) (ap (leb c.amount) e ∙ f)) ∙ ap (λ (t : Bool). cond t (b ∷ a ∷ c ∷ []) (a ∷ insert b (c ∷ []))) (le-leb a.amount b.amount (omega arith))))
       by false f =
-          ap reach_of (ap (insert a) (ap (λ (t : Bool). cond t (b ∷ c ∷ []) (c ∷ b ∷ [])) f) ∙ ap₂ (λ (s t : Bool). cond s (a ∷ c ∷ b ∷ []) (c ∷ cond t (a ∷ b ∷ []) (b ∷ a ∷ []))) (ap (leb c.amount) e ∙ f) (leb_true b.amount a.amount (omega arith)))
+          ap reach_of (ap (insert a) (ap (λ (t : Bool). cond t (b ∷ c ∷ []) (c ∷ b ∷ [])) f) ∙ ap₂ (λ (s t : Bool). cond s (a ∷ c ∷ b ∷ []) (c ∷ cond t (a ∷ b ∷ []) (b ∷ a ∷ []))) (ap (leb c.amount) e ∙ f) (le-leb b.amount a.amount (omega arith)))
           ∙ back c a b e
-          ∙ sym (ap reach_of (ap (insert b) (ap (λ (t : Bool). cond t (a ∷ c ∷ []) (c ∷ a ∷ [])) (ap (leb c.amount) e ∙ f)) ∙ ap₂ (λ (s t : Bool). cond s (b ∷ c ∷ a ∷ []) (c ∷ cond t (b ∷ a ∷ []) (a ∷ b ∷ []))) f (leb_true a.amount b.amount (omega arith))))
+          ∙ sym (ap reach_of (ap (insert b) (ap (λ (t : Bool). cond t (a ∷ c ∷ []) (c ∷ a ∷ [])) (ap (leb c.amount) e ∙ f)) ∙ ap₂ (λ (s t : Bool). cond s (b ∷ c ∷ a ∷ []) (c ∷ cond t (b ∷ a ∷ []) (a ∷ b ∷ []))) f (le-leb a.amount b.amount (omega arith))))
 
   equal_last : (a b c : Weight) → b.amount ≡ c.amount → reach_of (sorted (a ∷ b ∷ c ∷ [])) ≡ reach_of (sorted (a ∷ c ∷ b ∷ []))
   equal_last a b c e = by (leb b.amount a.amount) refl
     where
       left : sorted (a ∷ b ∷ c ∷ []) ≡ insert a (b ∷ c ∷ [])
-      left = ap (λ (t : Bool). insert a (cond t (b ∷ c ∷ []) (c ∷ b ∷ []))) (leb_true c.amount b.amount (omega arith))
+      left = ap (λ (t : Bool). insert a (cond t (b ∷ c ∷ []) (c ∷ b ∷ []))) (le-leb c.amount b.amount (omega arith))
 
       right : sorted (a ∷ c ∷ b ∷ []) ≡ insert a (c ∷ b ∷ [])
-      right = ap (λ (t : Bool). insert a (cond t (c ∷ b ∷ []) (b ∷ c ∷ []))) (leb_true b.amount c.amount (omega arith))
+      right = ap (λ (t : Bool). insert a (cond t (c ∷ b ∷ []) (b ∷ c ∷ []))) (le-leb b.amount c.amount (omega arith))
 
       by : (t : Bool) → leb b.amount a.amount ≡ t → reach_of (sorted (a ∷ b ∷ c ∷ [])) ≡ reach_of (sorted (a ∷ c ∷ b ∷ []))
       by true f =
@@ -159,8 +145,8 @@ module _ (g : List ℤ) where
 -- weights in order are sorted already
 sorted_falls : (p q r : Weight) (n : ℕ) → Falls n (p ∷ q ∷ r ∷ []) → p ∷ q ∷ r ∷ [] ≡ sorted (p ∷ q ∷ r ∷ [])
 sorted_falls p q r n h =
-    sym (ap (λ (t : Bool). insert p (cond t (q ∷ r ∷ []) (r ∷ q ∷ []))) (leb_true r.amount q.amount h.1.1.0)
-    ∙ ap (λ (t : Bool). cond t (p ∷ q ∷ r ∷ []) (q ∷ insert p (r ∷ []))) (leb_true q.amount p.amount h.1.0))
+    sym (ap (λ (t : Bool). insert p (cond t (q ∷ r ∷ []) (r ∷ q ∷ []))) (le-leb r.amount q.amount h.1.1.0)
+    ∙ ap (λ (t : Bool). cond t (p ∷ q ∷ r ∷ []) (q ∷ insert p (r ∷ []))) (le-leb q.amount p.amount h.1.0))
 
 free : (g : List ℤ) (p q r : Weight) (n : ℕ) → Falls n (p ∷ q ∷ r ∷ []) → reach_on (stacked (p ∷ q ∷ r ∷ [])) g ≡ reach_on (stacked (sorted (p ∷ q ∷ r ∷ []))) g
 free g p q r n h = ap (λ (ws : List Weight). reach_on (stacked ws) g) (sorted_falls p q r n h)
