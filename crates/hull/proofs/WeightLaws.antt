@@ -47,13 +47,14 @@ pub along_axis : (m : Face → ℕ) (z : ℤ) (f : Face) → m (behind f) ≡ m 
 along_axis m (pos n) f e = refl
 along_axis m (negsuc n) f e = e
 
-abbrev ex : Face
+-- the axes
+abbrev pub ex : Face
 ex = face (pos 1) (pos 0) (pos 0)
 
-abbrev ey : Face
+abbrev pub ey : Face
 ey = face (pos 0) (pos 1) (pos 0)
 
-abbrev ez : Face
+abbrev pub ez : Face
 ez = face (pos 0) (pos 0) (pos 1)
 
 pub ranked : (x y z : ℤ) → nat_abs x ≤ direction_limit → nat_abs y ≤ direction_limit → nat_abs z ≤ direction_limit → Ranked (sorted (box_weights_lem x y z))

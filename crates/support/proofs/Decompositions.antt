@@ -1,7 +1,8 @@
 -- A direction as weights on the faces of a box, and on all 26.
-use Rattle.std.proofs.Common.{◌≡◌, ℕ, suc, ◌+◌, ◌-◌, ◌*◌, ◌<◌, ◌≤◌, Bool, true, false, cond, ◌&&◌, ◌||◌, T, eqb, ltb, leb, List, [], ◌∷◌, get_or, ℤ, pos, negsuc, ◌+ℤ◌, ◌-ℤ◌, ◌*ℤ◌, neg_ℤ, nat_abs, sym, refl, ap, ◌∙◌, subst, ap₂, arith, lit<, lit≤, eqb→eq, ltb→lt}
+use Rattle.std.proofs.Common.{◌≡◌, ℕ, suc, ◌+◌, ◌-◌, ◌*◌, ◌<◌, ◌≤◌, Bool, true, false, cond, ◌&&◌, ◌||◌, eqb, ltb, leb, List, [], ◌∷◌, get_or, ℤ, pos, negsuc, ◌+ℤ◌, ◌-ℤ◌, ◌*ℤ◌, neg_ℤ, nat_abs, sym, refl, ap, ◌∙◌, ap₂, arith, lit<, lit≤}
 use native.Mathlib.Nat as NatL
 use borrow.Author.Differences.{ints}
+use Rattle.std.proofs.lemmas.Bool.{and_parts, eqb-true, ltb-true}
 use Rattle.std.specs.List.{AllByRecursion}
 use Rattle.integers.proofs.Order.{nat_abs_add}
 use Rattle.integers.proofs.Ring.{var, ◌⊕◌, ◌⊖◌, ◌⊗◌, ⊝, #, solve}
@@ -12,20 +13,11 @@ use Rattle.hull.specs.declared.face.Weight.{Weight}
 use Rattle.hull.specs.Faces.{face, faces, behind, joined, no_face, place, rank, same, Small}
 use Rattle.hull.specs.Weights.{weight, entry, box_weights_lem, insert, sorted, stacked_from, stacked, many_weights_lem, total, Falls, Ranked}
 use Rattle.hull.specs.Measures.{along, size}
-use Rattle.hull.proofs.FaceTable.{at_face, left, right}
-use Rattle.hull.proofs.WeightLaws.{size_of, along_axis, total_sorted, ranked, small_edge, small_tip}
+use Rattle.hull.proofs.FaceTable.{at_face}
+use Rattle.hull.proofs.WeightLaws.{ex, ey, ez, size_of, along_axis, total_sorted, ranked, small_edge, small_tip}
 use Rattle.support.specs.Supports.{product, sum_of}
 use Rattle.support.proofs.Sums.{sum_sorted}
 use Rattle.support.proofs.FacedLaws.{Listed, Decomposes}
-
-abbrev ex : Face
-ex = face (pos 1) (pos 0) (pos 0)
-
-abbrev ey : Face
-ey = face (pos 0) (pos 1) (pos 0)
-
-abbrev ez : Face
-ez = face (pos 0) (pos 0) (pos 1)
 
 -- ---- the faces of a box
 -- an entry's face is that of its axis, or the one behind
@@ -88,7 +80,7 @@ box_decomposes u = record {
 -- ---- the 26 faces
 -- a face that no entry of differs from another is that other
 same_face : (e f : Face) → same e f ≡ true → e ≡ f
-same_face e f h = let k : rank (joined e (behind f)) ≡ 0 = eqb→eq (rank (joined e (behind f))) 0 (subst T (sym h) tt) in made (zero_gap e.x f.x (omega arith)) (zero_gap e.y f.y (omega arith)) (zero_gap e.z f.z (omega arith))
+same_face e f h = let k : rank (joined e (behind f)) ≡ 0 = eqb-true (rank (joined e (behind f))) 0 h in made (zero_gap e.x f.x (omega arith)) (zero_gap e.y f.y (omega arith)) (zero_gap e.z f.z (omega arith))
   where
     zero_gap : (a b : ℤ) → nat_abs (a +ℤ neg_ℤ b) ≡ 0 → a ≡ b
     zero_gap a b h = omega (arith, ints)
@@ -96,24 +88,19 @@ same_face e f h = let k : rank (joined e (behind f)) ≡ 0 = eqb→eq (rank (joi
     made : e.x ≡ f.x → e.y ≡ f.y → e.z ≡ f.z → e ≡ f
     made x y z = ap (λ (a : ℤ). face a e.y e.z) x ∙ ap (λ (a : ℤ). face f.x a e.z) y ∙ ap (λ (a : ℤ). face f.x f.y a) z
 
-true_of : (b : Bool) → T b → b ≡ true
-true_of true t = refl
-true_of false t = absurd t
-
 -- every face with small entries that are not all 0 is listed
 abbrev listed_test : Face → Bool
 listed_test f = eqb (rank f) 0 || (ltb (place f) 26 && same (get_or faces (place f) no_face) f)
 
 listed_26 : (f : Face) → Small f → 0 < rank f → Listed 26 f
 unfolding place
-listed_26 f s h = by (eqb (rank f) 0) refl (at_face listed_test tt f s)
+listed_26 f s h = by (eqb (rank f) 0) refl (at_face listed_test refl f s)
   where
-    by : (b : Bool) → eqb (rank f) 0 ≡ b → T (b || (ltb (place f) 26 && same (get_or faces (place f) no_face) f)) → Listed 26 f
-    by true e t = absurd (let z = eqb→eq (rank f) 0 (subst T (sym e) tt) in omega arith)
-    by false e t = record {
-      within = ltb→lt (place f) 26 (left (ltb (place f) 26) (same (get_or faces (place f) no_face) f) t);
-      found = same_face (get_or faces (place f) no_face) f (true_of (same (get_or faces (place f) no_face) f) (right (ltb (place f) 26) (same (get_or faces (place f) no_face) f) t));
-    }
+    by : (b : Bool) → eqb (rank f) 0 ≡ b → (b || (ltb (place f) 26 && same (get_or faces (place f) no_face) f)) ≡ true → Listed 26 f
+    by true e t = absurd (let z = eqb-true (rank f) 0 e in omega arith)
+    by false e t =
+        let p = and_parts (ltb (place f) 26) (same (get_or faces (place f) no_face) f) t in
+        record { within = ltb-true (place f) 26 p.0; found = same_face (get_or faces (place f) no_face) f p.1 }
 
 -- ---- weights in order, stacked
 joined_product : (e f : Face) (v : Corner) → product (joined e f) v ≡ product e v +ℤ product f v

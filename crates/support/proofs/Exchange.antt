@@ -10,7 +10,8 @@ use Rattle.hull.specs.declared.face.Weight.{Weight}
 use Rattle.hull.specs.Faces.{face, joined}
 use Rattle.hull.specs.Weights.{entry, insert, sorted, stacked, box_weights_lem, many_weights_lem, Falls}
 use Rattle.support.specs.Supports.{share, support, sum_of, reach_on}
-use Rattle.support.specs.Exchange.{orders, InAnyOrderAs}
+use Rattle.hull.proofs.WeightLaws.{ex, ey, ez}
+use Rattle.support.specs.Exchange.{orders, InAnyOrder, InAnyOrderAs}
 
 -- ---- three ways in which two numbers compare
 by_order : {P : Type 0} (m n : ℕ) → (m < n → P) → (m ≡ n → P) → (n < m → P) → P
@@ -171,9 +172,12 @@ free_orders g a b c =
       ),
     )
 
-pub many_in_any_order : (u : Direction) (g : List ℤ) → InAnyOrderAs stacked g u.x u.y u.z (reach_on (many_weights_lem u.x u.y u.z) g)
+pub in_any_order : (g : List ℤ) (x y z r : ℤ) → r ≡ reach_on (many_weights_lem x y z) g → InAnyOrder g x y z r
 unfolding InAnyOrderAs
-many_in_any_order u g = free_orders g (entry u.x (face (pos 1) (pos 0) (pos 0))) (entry u.y (face (pos 0) (pos 1) (pos 0))) (entry u.z (face (pos 0) (pos 0) (pos 1)))
+in_any_order g x y z r e = subst (λ (k : ℤ). InAnyOrder g x y z k) (sym e) (free_orders g (entry x ex) (entry y ey) (entry z ez))
+
+pub many_in_any_order : (u : Direction) (g : List ℤ) → InAnyOrder g u.x u.y u.z (reach_on (many_weights_lem u.x u.y u.z) g)
+many_in_any_order u g = in_any_order g u.x u.y u.z _ refl
 
 -- ---- weights that stay on the axes may come in any order
 sum_orders : (e : Weight → ℤ) (a b c : Weight) → AllByRecursion (λ ws. (n : ℕ) → Falls n ws → sum_of e ws ≡ sum_of e (a ∷ b ∷ c ∷ [])) (orders (a ∷ b ∷ c ∷ []))
@@ -188,4 +192,4 @@ sum_orders e a b c = let s = turned (e a) (e b) (e c) in (λ n h. refl, (λ n h.
 pub box_in_any_order : (u : Direction) (g : List ℤ) → InAnyOrderAs (λ ws. ws) g u.x u.y u.z (reach_on (box_weights_lem u.x u.y u.z) g)
 unfolding InAnyOrderAs reach_on
 box_in_any_order u g =
-    sum_orders (λ (w : Weight). share w.amount (support g w.on)) (entry u.x (face (pos 1) (pos 0) (pos 0))) (entry u.y (face (pos 0) (pos 1) (pos 0))) (entry u.z (face (pos 0) (pos 0) (pos 1)))
+    sum_orders (λ (w : Weight). share w.amount (support g w.on)) (entry u.x ex) (entry u.y ey) (entry u.z ez)

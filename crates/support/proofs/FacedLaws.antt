@@ -37,10 +37,6 @@ pub record Decomposes (u : Direction) (n : ℕ) (ws : List Weight) : Type 0 wher
 all_of : {X : Type 0} (P : X → Type 0) (xs : List X) → ((x : X) → Has xs x → P x) → AllByRecursion P xs
 all_of P xs f = All-weaker (Has xs) P f xs (all_has_itself xs)
 
-every : {X : Type 0} {P : X → Type 0} → ((x : X) → P x) → (xs : List X) → AllByRecursion P xs
-every f [] = tt
-every f (x ∷ xs) = (f x, every f xs)
-
 -- totals of what a sum may pass
 total_excess : (ws : List Weight) → total (λ (w : Weight). excess w.amount (rank w.on * support_limit)) ws ≡ excess (total (λ (w : Weight). w.amount) ws) (total (λ (w : Weight). rank w.on) ws * support_limit)
 total_excess [] = refl
@@ -106,7 +102,7 @@ module _ (u : Direction) (n : ℕ) (ws : List Weight) (d : Decomposes u n ws) (g
       one v i =
           subst (λ (z : ℤ). z ≤ℤ (pos reach_unit *ℤ reach_on ws g)) (sym (d.spans v))
           (le_trans (sum_of (λ (w : Weight). pos w.amount *ℤ product w.on v) ws) (unrounded_on ws (p ∷ c)) (pos reach_unit *ℤ reach_on ws g)
-          (sum_mono (λ (w : Weight). pos w.amount *ℤ product w.on v) e ws (every (λ w. mul_le_mul_left (pos w.amount) (product w.on v) (top w.on (p ∷ c)) (nat_nonneg w.amount) (all-has (λ v. product w.on v ≤ℤ top w.on (p ∷ c)) (p ∷ c) v (top_over w.on (p ∷ c)) i)) ws)) over)
+          (sum_mono (λ (w : Weight). pos w.amount *ℤ product w.on v) e ws (all_of (λ (w : Weight). (pos w.amount *ℤ product w.on v) ≤ℤ e w) ws (λ w k. mul_le_mul_left (pos w.amount) (product w.on v) (top w.on (p ∷ c)) (nat_nonneg w.amount) (all-has (λ v. product w.on v ≤ℤ top w.on (p ∷ c)) (p ∷ c) v (top_over w.on (p ∷ c)) i)))) over)
 
   -- the unrounded reach passes no product by more than the spread allows
   near : (s : ℕ) (v : Corner) → AllByRecursion (Near s v) (p ∷ c) → unrounded_on ws (p ∷ c) ≤ℤ (along u v +ℤ pos (size u * s))
@@ -115,7 +111,7 @@ module _ (u : Direction) (n : ℕ) (ws : List Weight) (d : Decomposes u n ws) (g
       subst (λ (z : ℤ). unrounded_on ws (p ∷ c) ≤ℤ (z +ℤ pos (size u * s))) (sym (d.spans v))
       (wider (sum_of e ws) (sum_of (λ (w : Weight). pos w.amount *ℤ product w.on v) ws) (total (λ (w : Weight). w.amount * rank w.on) ws * s) (size u * s) (NatL.mul-le-mul_right s d.lengths)
       (subst (λ (m : ℕ). sum_of e ws ≤ℤ (sum_of (λ (w : Weight). pos w.amount *ℤ product w.on v) ws +ℤ pos m)) (total_spread s ws)
-      (sum_le e (λ (w : Weight). pos w.amount *ℤ product w.on v) (λ (w : Weight). w.amount * (rank w.on * s)) ws (every one ws))))
+      (sum_le e (λ (w : Weight). pos w.amount *ℤ product w.on v) (λ (w : Weight). w.amount * (rank w.on * s)) ws (all_of (λ (w : Weight). e w ≤ℤ (pos w.amount *ℤ product w.on v +ℤ pos (w.amount * (rank w.on * s)))) ws (λ w i. one w)))))
     where
       one : (w : Weight) → e w ≤ℤ (pos w.amount *ℤ product w.on v +ℤ pos (w.amount * (rank w.on * s)))
       one w =

@@ -1,7 +1,8 @@
 -- The support values of a hull as a table that code fills.
-use Rattle.std.proofs.Common.{◌≡◌, ℕ, zero, suc, ◌+◌, ◌<◌, ◌≤◌, Bool, true, ◌&&◌, T, leb, List, [], ◌∷◌, ◌++◌, length, get_or, take, drop, set, replicate, ℤ, pos, negsuc, nat_abs, refl, ap, ◌∙◌, ap₂, le_of_suc-le-suc, add-one, arith, leb→le}
+use Rattle.std.proofs.Common.{◌≡◌, ℕ, zero, suc, ◌+◌, ◌<◌, ◌≤◌, Bool, true, ◌&&◌, leb, List, [], ◌∷◌, ◌++◌, length, get_or, take, drop, set, replicate, ℤ, pos, negsuc, nat_abs, refl, ap, ◌∙◌, ap₂, le_of_suc-le-suc, add-one, arith}
 use borrow.Author.Differences.{ints}
 use Rattle.std.specs.Int.{int_max}
+use Rattle.std.proofs.lemmas.Bool.{and_parts, leb-true}
 use Rattle.std.specs.List.{AllByRecursion}
 use Rattle.std.proofs.ByRecursion.{All-get_or, All-map}
 use Rattle.std.proofs.lemmas.List.{append-nil, take_all, drop_all, get_or-map, length-map}
@@ -9,7 +10,6 @@ use Rattle.std.proofs.lemmas.Int.{clamps}
 use Rattle.hull.specs.declared.corner.Corner.{Corner}
 use Rattle.hull.specs.declared.face.Face.{Face}
 use Rattle.hull.specs.Faces.{faces, no_face, Small}
-use Rattle.hull.proofs.FaceTable.{left, right}
 use Rattle.support.specs.Supports.{product, kept, larger, supports, raised}
 use Rattle.support.proofs.Tops.{kept_small}
 
@@ -21,17 +21,16 @@ abbrev every : (Face → Bool) → List Face → Bool
 every t [] = true
 every t (f ∷ fs) = t f && every t fs
 
-small_from : (fs : List Face) → T (every small_test fs) → AllByRecursion Small fs
+small_from : (fs : List Face) → every small_test fs ≡ true → AllByRecursion Small fs
 small_from [] t = tt
 small_from (f ∷ fs) t =
-    let s = left (small_test f) (every small_test fs) t in
-    let yz = right (leb (nat_abs f.x) 1) (leb (nat_abs f.y) 1 && leb (nat_abs f.z) 1) s in (
-      record { small_x = leb→le (nat_abs f.x) 1 (left (leb (nat_abs f.x) 1) (leb (nat_abs f.y) 1 && leb (nat_abs f.z) 1) s); small_y = leb→le (nat_abs f.y) 1 (left (leb (nat_abs f.y) 1) (leb (nat_abs f.z) 1) yz); small_z = leb→le (nat_abs f.z) 1 (right (leb (nat_abs f.y) 1) (leb (nat_abs f.z) 1) yz) },
-      small_from fs (right (small_test f) (every small_test fs) t),
-    )
+    let s = and_parts (small_test f) (every small_test fs) t in
+    let x = and_parts (leb (nat_abs f.x) 1) (leb (nat_abs f.y) 1 && leb (nat_abs f.z) 1) s.0 in
+    let y = and_parts (leb (nat_abs f.y) 1) (leb (nat_abs f.z) 1) x.1 in
+    (record { small_x = leb-true (nat_abs f.x) 1 x.0; small_y = leb-true (nat_abs f.y) 1 y.0; small_z = leb-true (nat_abs f.z) 1 y.1 }, small_from fs s.1)
 
 pub small_at : (i : ℕ) → i < 26 → Small (get_or faces i no_face)
-small_at i h = All-get_or Small faces i no_face h (small_from faces tt)
+small_at i h = All-get_or Small faces i no_face h (small_from faces refl)
 
 -- ---- one support value
 pub support_at : (p : Corner) (i : ℕ) → i < 26 → get_or (supports p) i (pos 0) ≡ kept (product (get_or faces i no_face) p)
@@ -81,7 +80,7 @@ larger_lowest (suc n) (z ∷ s) h = ap₂ ◌∷◌ (above z h.0) (larger_lowest
 
 pub raised_lowest : (n : ℕ) (p : Corner) → raised (replicate n lowest) p ≡ take n (supports p)
 unfolding raised supports
-raised_lowest n p = larger_lowest n (supports p) (All-map (λ z. nat_abs z < 32768) (λ f. kept (product f p)) faces (small faces (small_from faces tt)))
+raised_lowest n p = larger_lowest n (supports p) (All-map (λ z. nat_abs z < 32768) (λ f. kept (product f p)) faces (small faces (small_from faces refl)))
   where
     small : (fs : List Face) → AllByRecursion Small fs → AllByRecursion (λ f. nat_abs (kept (product f p)) < 32768) fs
     small [] h = tt

@@ -1,11 +1,8 @@
 use Rattle.std.proofs.Common.{◌*◌, ◌^◌, ◌≤◌, ℤ, ◌+ℤ◌, nat_abs, sym, ◌∙◌, subst, ap₂, lit<}
 use mir.Syntax.{w128}
 use Rattle.std.proofs.lemmas.Int.{to_z-of_z}
-use Rattle.integers.proofs.Fits.{sum_fits, sum3_fits, sum3_is, sum3_small}
+use Rattle.integers.proofs.Fits.{sum3_fits, sum3_is, sum3_small}
 use Rattle.integers.proofs.dot.Goals as goal
-
-pub overflow_add-result : goal.overflow_add-result
-overflow_add-result c = sum_fits w128 c.product.result c.product-2.result (2 ^ 94) (2 ^ 94) c.product.ensures.bound c.product-2.ensures.bound (lit< tt)
 
 pub overflow_add-result-2 : goal.overflow_add-result-2
 overflow_add-result-2 c = sum3_fits w128 c.product.result c.product-2.result c.product-3.result (2 ^ 94) c.product.ensures.bound c.product-2.ensures.bound c.product-3.ensures.bound (lit< tt)

@@ -2,14 +2,10 @@ use Rattle.std.proofs.Common.{◌≡◌, ℕ, ◌*◌, ◌^◌, ℤ, pos, ◌+�
 use mir.Syntax.{w128}
 use Rattle.std.proofs.lemmas.Int.{to_z-of_z}
 use Rattle.integers.specs.Rounding.{div_up}
-use Rattle.integers.proofs.Fits.{sum_fits, sum_is}
+use Rattle.integers.proofs.Fits.{sum_is}
 use Rattle.hull.specs.Units.{corner_limit, direction_limit, reach_unit}
 use Rattle.ball.specs.Balls.{ball_reach_lem}
 use Rattle.ball.proofs.kind.BallHullHull.reach.Goals as goal
-
-pub overflow_add-dot : goal.overflow_add-dot
-overflow_add-dot c =
-    sum_fits w128 c.dot.result c.extent.result (3 * (direction_limit * corner_limit)) (2 ^ 64) c.dot.ensures.bound c.extent.ensures.bound (lit< tt)
 
 pub returns : goal.returns
 returns c =
