@@ -2,12 +2,13 @@
 ghost use Rattle.std.specs.Prelude.{◌≡◌, ◌<◌, slice_index_or};
 ghost use Rattle.integers.specs.Rounding.{div_down};
 ghost use Rattle.pairs.specs.Units.{fixed_count, axis_count, axis_unit};
-ghost use Rattle.pairs.specs.Axes.{fixed_axes, no_fixed, as_axis, turned_entry, turned, axis_at};
+ghost use Rattle.pairs.specs.Axes.{fixed_axes, no_fixed, turned_entry, turned, axis_at};
 
 use super::directions::{product, separating_axis};
-use super::table::{AXIS_COUNT, Axes};
+use super::table::Axes;
 use pairs::{Axis, FixedAxis};
 use placement::{Placement, Row};
+use std::array;
 
 // There are so many fixed axes.
 const FIXED_COUNT: usize = 13;
@@ -38,17 +39,6 @@ fn fixed_axis(i: usize) -> FixedAxis
     FixedAxis { x, y, z }
 }
 
-// A fixed axis as one of a placement.
-fn axis(a: &FixedAxis) -> Axis
-    ensures { result ≡ as_axis a.now }
-{
-    Axis {
-        x: a.x,
-        y: a.y,
-        z: a.z,
-    }
-}
-
 // A 4,096th, rounded down.
 fn floor(z: i64) -> i64
     ensures { result ≡ div_down z axis_unit }
@@ -60,7 +50,7 @@ fn floor(z: i64) -> i64
 fn turn_entry(r: &Row, a: &FixedAxis) -> i16
     ensures { result ≡ turned_entry r.now a.now }
 {
-    floor(product(&axis(a), r.x, r.y, r.z)) as i16
+    floor(product(a, r.x, r.y, r.z)) as i16
 }
 
 // A fixed axis turned by the placement.
@@ -80,7 +70,7 @@ fn axis_of(p: &Placement, i: usize) -> Axis
     ensures { result ≡ axis_at p.now i }
 {
     if i < FIXED_COUNT {
-        axis(&fixed_axis(i))
+        fixed_axis(i).into()
     } else {
         turn(p, &fixed_axis(i - FIXED_COUNT))
     }
@@ -91,10 +81,7 @@ impl Axes {
     pub fn new(p: Placement) -> Axes
         ensures { result.placement ≡ p }
     {
-        let mut each = [separating_axis(&p, &axis_of(&p, 0)); AXIS_COUNT];
-        for i in 0..AXIS_COUNT {
-            each[i] = separating_axis(&p, &axis_of(&p, i));
-        }
+        let each = array::from_fn(|i| separating_axis(&p, &axis_of(&p, i)));
         Axes { placement: p, each }
     }
 }

@@ -1,12 +1,12 @@
 // The directions in which hulls are asked along an axis.
 ghost use Rattle.std.specs.Prelude.{◌≡◌};
 ghost use Rattle.hull.specs.Units.{direction_limit, Within};
-ghost use Rattle.pairs.specs.Products.{along};
+ghost use Rattle.pairs.specs.Products.{dot};
 ghost use Rattle.pairs.specs.Directions.{moved_direction, standing_direction, opposite};
 ghost use Rattle.pairs.specs.Gaps.{rounded_axis};
 
 use hull::Direction;
-use pairs::{Axis, SeparatingAxis};
+use pairs::{Axis, BoundedAxis, SeparatingAxis};
 use placement::Placement;
 
 // So many units of an image make a tick.
@@ -16,8 +16,8 @@ const W: i64 = 1048576;
 const SHIFT_RATIO: i64 = 1;
 
 // The product of an axis and three numbers.
-pub(crate) fn product(l: &Axis, x: i32, y: i32, z: i32) -> i64
-    ensures { result ≡ along l.now x y z }
+pub(crate) fn product<const LIMIT: u16>(l: &BoundedAxis<LIMIT>, x: i32, y: i32, z: i32) -> i64
+    ensures { result ≡ dot l.now.x l.now.y l.now.z x y z }
 {
     integers::dot(l.x as i64, l.y as i64, l.z as i64, x, y, z) as i64
 }

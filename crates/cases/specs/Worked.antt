@@ -13,7 +13,7 @@ use Rattle.support.specs.Supports.{kept, rounded}
 use Rattle.faced.specs.Hulls.{box_begun, box_grown, box_reach}
 use Rattle.placement.specs.Units.{W, matrix_limit, shift_limit}
 use Rattle.placement.specs.declared.parts.Placement.{Placement}
-use Rattle.placement.specs.declared.parts.Row.{Row}
+use Rattle.placement.specs.Parts.{Row}
 use Rattle.book.specs.declared.item.Facet.{Facet}
 use Rattle.book.specs.Trees.{leaf}
 use Rattle.walks.specs.Walks.{Walk}

@@ -1,8 +1,8 @@
 -- The list of a placement's axes.
-use Rattle.std.proofs.Common.{◌≡◌, ℕ, ◌+◌, ◌-◌, ◌<◌, ◌≤◌, List, [], ◌∷◌, ◌++◌, map, length, get_or, take, set, ℤ, sym, refl, ap, ◌∙◌, subst, arith}
+use Rattle.std.proofs.Common.{◌≡◌, ℕ, ◌+◌, ◌-◌, ◌<◌, ◌≤◌, List, [], ◌∷◌, ◌++◌, map, length, get_or, ℤ, sym, refl, ap, ◌∙◌, subst, arith}
 use Rattle.std.specs.List.{AllByRecursion}
 use Rattle.std.proofs.ByRecursion.{All-get_or, has_get_or}
-use Rattle.std.proofs.lemmas.List.{get_or-map, get_or_append_left, get_or-append_right, take_more, take_more_set, take_all, length-map, length-set}
+use Rattle.std.proofs.lemmas.List.{get_or-map, get_or_append_left, get_or-append_right, same_lists, length-map}
 use Rattle.hull.specs.declared.direction.Direction.{Direction}
 use Rattle.placement.specs.declared.parts.Placement.{Placement}
 use Rattle.pairs.specs.declared.axis.SeparatingAxis.{SeparatingAxis}
@@ -33,18 +33,11 @@ module _ (p : Placement) where
   unfolding separating_axes axis_at
   separating_at i d h = get_or-map (rounded_axis p) (axes_of_lem p) i no_axis d (subst (λ (n : ℕ). i < n) (sym axes_length) h)
 
-  -- ---- filling a list
-  pub one_more : (each : List SeparatingAxis) (i : ℕ) (s : SeparatingAxis) → i < axis_count → length each ≡ axis_count → take i each ≡ take i (separating_axes p) → s ≡ rounded_axis p (axis_at p i) → (length (set each i s) ≡ axis_count) × (take (i + 1) (set each i s) ≡ take (i + 1) (separating_axes p))
-  one_more each i s h n e k =
-      let l : i < length each = subst (λ (m : ℕ). i < m) (sym n) h in
-      let m : i < length (separating_axes p) = subst (λ (m : ℕ). i < m) (sym separating_length) h in (
-        length-set each i s ∙ n,
-        take_more_set each i s l ∙ ap (λ (xs : List SeparatingAxis). xs ++ (s ∷ [])) e ∙ ap (λ (x : SeparatingAxis). take i (separating_axes p) ++ (x ∷ [])) (k ∙ sym (separating_at i s h)) ∙ sym (take_more (separating_axes p) i s m),
-      )
-
-  pub all_there : (each : List SeparatingAxis) → length each ≡ axis_count → take axis_count each ≡ take axis_count (separating_axes p) → each ≡ separating_axes p
-  all_there each n e =
-      sym (take_all axis_count each (omega arith)) ∙ e ∙ take_all axis_count (separating_axes p) (omega (arith, separating_length))
+  -- ---- a list made of them, one by one
+  pub all_made : (each : List SeparatingAxis) → length each ≡ axis_count → ((i : ℕ) (d : SeparatingAxis) → i < axis_count → get_or each i d ≡ rounded_axis p (axis_at p i)) → each ≡ separating_axes p
+  all_made each n made =
+      same_lists each (separating_axes p) (n ∙ sym separating_length)
+      (λ i d h. let l : i < axis_count = omega arith in made i d l ∙ sym (separating_at i d l))
 
   -- ---- a list that holds them
   module _ (each : List SeparatingAxis) (are : each ≡ separating_axes p) where

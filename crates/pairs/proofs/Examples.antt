@@ -2,10 +2,9 @@
 use Rattle.std.proofs.Common.{◌≡◌, T, leb, ℤ, pos, negsuc, nat_abs, refl, leb→le}
 use Rattle.hull.specs.Directions.{direction}
 use Rattle.placement.specs.declared.parts.Placement.{Placement}
-use Rattle.placement.specs.declared.parts.Row.{Row}
-use Rattle.placement.specs.declared.parts.Shift.{Shift}
+use Rattle.placement.specs.Parts.{Row, Shift}
 use Rattle.placement.specs.Units.{matrix_limit, shift_limit}
-use Rattle.pairs.specs.declared.axis.Axis.{Axis}
+use Rattle.pairs.specs.Records.{Axis}
 use Rattle.pairs.specs.Products.{shift_along}
 use Rattle.pairs.specs.Axes.{axis_at, axes_of_lem, turned}
 use Rattle.pairs.specs.Directions.{moved_direction, moved_size, standing_size}

@@ -8,7 +8,7 @@ use Rattle.hull.specs.Directions.{direction}
 use Rattle.hull.specs.Measures.{size, along as toward}
 use Rattle.placement.specs.declared.parts.Placement.{Placement}
 use Rattle.placement.specs.Units.{W, shift_unit}
-use Rattle.pairs.specs.declared.axis.Axis.{Axis}
+use Rattle.pairs.specs.Records.{Axis}
 use Rattle.pairs.specs.Products.{dot, image, along, image_along, corner_along, shift_along}
 use Rattle.pairs.specs.Directions.{moved_direction, standing_direction, opposite, standing_size}
 use Rattle.pairs.specs.Facets.{Facet, Weights, Meets, SharesPoint}

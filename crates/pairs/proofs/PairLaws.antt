@@ -10,7 +10,7 @@ use Rattle.hull.specs.Measures.{along, size, Covers, Tight, Rounds, Spread}
 use Rattle.hull.specs.Units.{reach_unit, slack, rounding}
 use Rattle.placement.specs.declared.parts.Placement.{Placement}
 use Rattle.placement.specs.Units.{shift_unit}
-use Rattle.pairs.specs.declared.axis.Axis.{Axis}
+use Rattle.pairs.specs.Records.{Axis}
 use Rattle.pairs.specs.Units.{shift_ratio}
 use Rattle.pairs.specs.Products.{image_along, corner_along, shift_along, apart}
 use Rattle.pairs.specs.Axes.{axes_of_lem}

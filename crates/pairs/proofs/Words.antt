@@ -5,7 +5,7 @@ use mir.Syntax.{Width}
 use Rattle.std.proofs.lemmas.Int.{to_z-of_z}
 use Rattle.integers.proofs.Fits.{fits, read}
 use Rattle.placement.specs.Units.{W}
-use Rattle.pairs.specs.declared.axis.Axis.{Axis}
+use Rattle.pairs.specs.Records.{Axis}
 use Rattle.pairs.specs.Units.{axis_limit}
 use Rattle.pairs.specs.Products.{along}
 

@@ -3,10 +3,9 @@ use Rattle.std.specs.Prelude.{ℕ, ◌*◌, ◌≤◌, T, List, [], ◌∷◌, �
 use Rattle.std.proofs.Common.{arith, leb→le}
 use Rattle.integers.specs.Rounding.{div_down}
 use Rattle.placement.specs.declared.parts.Placement.{Placement}
-use Rattle.placement.specs.declared.parts.Row.{Row}
+use Rattle.placement.specs.Parts.{Row}
 use Rattle.placement.specs.Units.{matrix_limit}
-use Rattle.pairs.specs.declared.axis.Axis.{Axis}
-use Rattle.pairs.specs.declared.axis.FixedAxis.{FixedAxis}
+use Rattle.pairs.specs.Records.{Axis, FixedAxis}
 use Rattle.pairs.specs.Units.{fixed_limit, axis_limit, axis_unit}
 use Rattle.pairs.specs.Products.{dot, dot_small}
 

@@ -8,7 +8,7 @@ use Rattle.hull.specs.Measures.{size}
 use Rattle.hull.specs.Units.{direction_limit}
 use Rattle.placement.specs.declared.parts.Placement.{Placement}
 use Rattle.placement.specs.Units.{W, matrix_limit}
-use Rattle.pairs.specs.declared.axis.Axis.{Axis}
+use Rattle.pairs.specs.Records.{Axis}
 use Rattle.pairs.specs.declared.axis.SeparatingAxis.{SeparatingAxis}
 use Rattle.pairs.specs.Units.{axis_limit}
 use Rattle.pairs.specs.Products.{along, dot_small, shift_along}

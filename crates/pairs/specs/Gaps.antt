@@ -4,7 +4,7 @@ use Rattle.std.specs.List.{ContainsAt as Has}
 use Rattle.hull.specs.declared.direction.Direction.{Direction}
 use Rattle.placement.specs.declared.parts.Placement.{Placement}
 use Rattle.placement.specs.Units.{shift_unit}
-use Rattle.pairs.specs.declared.axis.Axis.{Axis}
+use Rattle.pairs.specs.Records.{Axis}
 use Rattle.pairs.specs.declared.axis.SeparatingAxis.{SeparatingAxis}
 use Rattle.pairs.specs.Units.{axis_count, shift_ratio}
 use Rattle.pairs.specs.Axes.{axes_of_lem, axis_at}

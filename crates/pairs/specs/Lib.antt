@@ -1,4 +1,5 @@
 pub mod Units
+pub mod Records
 pub mod Products
 pub mod Axes
 pub mod Directions

@@ -4,9 +4,9 @@ use Rattle.integers.proofs.Order.{small_mul}
 use Rattle.integers.proofs.Fits.{sum3_small}
 use Rattle.hull.specs.declared.corner.Corner.{Corner}
 use Rattle.placement.specs.declared.parts.Placement.{Placement}
-use Rattle.placement.specs.declared.parts.Row.{Row}
+use Rattle.placement.specs.Parts.{Row}
 use Rattle.placement.specs.Units.{W, shift_unit}
-use Rattle.pairs.specs.declared.axis.Axis.{Axis}
+use Rattle.pairs.specs.Records.{Axis}
 
 -- the product of two triples
 abbrev pub dot : ℤ → ℤ → ℤ → ℤ → ℤ → ℤ → ℤ

@@ -1,30 +1,28 @@
 // The axes along which two hulls are compared.
 ghost use Rattle.std.specs.Prelude.{◌≤◌, unsigned_abs};
-ghost use Rattle.pairs.specs.Units.{axis_limit, fixed_limit};
 
 use hull::Direction;
 
-// An axis of a placement.
+// An axis by its entries, none beyond a limit in size.
 #[derive(Clone, Copy)]
-pub struct Axis {
+pub struct BoundedAxis<const LIMIT: u16> {
     pub x: i16,
     pub y: i16,
     pub z: i16,
-    ghost x_in: { unsigned_abs x ≤ axis_limit },
-    ghost y_in: { unsigned_abs y ≤ axis_limit },
-    ghost z_in: { unsigned_abs z ≤ axis_limit },
+    ghost x_in: { unsigned_abs x ≤ LIMIT },
+    ghost y_in: { unsigned_abs y ≤ LIMIT },
+    ghost z_in: { unsigned_abs z ≤ LIMIT },
 }
 
+const AXIS_LIMIT: u16 = 768;
+
+const FIXED_LIMIT: u16 = 1;
+
+// An axis of a placement.
+pub type Axis = BoundedAxis<AXIS_LIMIT>;
+
 // An axis that is the same under every placement.
-#[derive(Clone, Copy)]
-pub struct FixedAxis {
-    pub x: i16,
-    pub y: i16,
-    pub z: i16,
-    ghost x_in: { unsigned_abs x ≤ fixed_limit },
-    ghost y_in: { unsigned_abs y ≤ fixed_limit },
-    ghost z_in: { unsigned_abs z ≤ fixed_limit },
-}
+pub type FixedAxis = BoundedAxis<FIXED_LIMIT>;
 
 // What a test along an axis needs: the directions of the moved hull and of the standing one, up and down the axis, and the shift
 // along it.

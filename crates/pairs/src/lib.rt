@@ -2,5 +2,6 @@
 #![tactic(auto)]
 
 mod axis;
+mod conversion;
 
-pub use axis::{Axis, FixedAxis, SeparatingAxis};
+pub use axis::{Axis, BoundedAxis, FixedAxis, SeparatingAxis};

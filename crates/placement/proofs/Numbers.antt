@@ -1,5 +1,5 @@
 -- Twelve numbers, one by one.
-use Rattle.std.proofs.Common.{◌≡◌, ℕ, zero, suc, ◌+◌, ◌^◌, ◌<◌, ◌≤◌, List, [], ◌∷◌, length, get_or, drop, ℤ, pos, nat_abs, sym, refl, ap, ◌∙◌, subst, ap₂, arith, lit<, w64, to_z, of_z}
+use Rattle.std.proofs.Common.{◌≡◌, ℕ, zero, suc, ◌+◌, ◌^◌, ◌<◌, ◌≤◌, List, [], ◌∷◌, length, get_or, drop, ℤ, pos, nat_abs, sym, refl, ap, ◌∙◌, subst, ap₂, arith, lit<, w64, SFits, to_z, of_z}
 use Rattle.std.proofs.lemmas.List.{drop_all, drop_more}
 use Rattle.std.proofs.lemmas.Int.{to_z-of_z}
 use Rattle.integers.proofs.Fits.{fits}
@@ -46,12 +46,25 @@ ranges n e h =
       range_at shift_limit 9 n (lit< tt) t.0 t.1.0 t.1.1.0,
     )
 
--- three entries are those from place i on
-abbrev pub SameAt : ℤ → ℤ → ℤ → ℕ → List ℤ → Type 0
-SameAt x y z i n = (x ≡ get_or n i (pos 0)) × (y ≡ get_or n (i + 1) (pos 0)) × (z ≡ get_or n (i + 2) (pos 0))
+-- the m elements from place i on as calls are given them, where each is a word
+abbrev pub words : ℕ → ℕ → List ℤ → List ℤ
+words zero i n = []
+words (suc m) i n = to_z w64 (of_z w64 (get_or n i (pos 0))) ∷ words m (i + 1) n
 
-pub entries_are : (p : Placement) (n : List ℤ) → length n ≡ 12 → SameAt p.x.x p.x.y p.x.z 0 n → SameAt p.y.x p.y.y p.y.z 3 n → SameAt p.z.x p.z.y p.z.z 6 n → SameAt p.shift.x p.shift.y p.shift.z 9 n → entries p ≡ n
-entries_are p n e x y z t = row x (row y (row z (row t refl))) ∙ twelve n e
+abbrev pub Words : ℕ → ℕ → List ℤ → Type 0
+Words zero i n = Unit
+Words (suc m) i n = SFits w64 (get_or n i (pos 0)) × Words m (i + 1) n
+
+words_are : (m i : ℕ) (n : List ℤ) → Words m i n → words m i n ≡ spelled m i n
+words_are zero i n f = refl
+words_are (suc m) i n f = ap₂ ◌∷◌ (to_z-of_z w64 (get_or n i (pos 0)) f.0) (words_are m (i + 1) n f.1)
+
+-- three entries are those from place i on, as a call is given them
+abbrev pub SameAt : ℤ → ℤ → ℤ → ℕ → List ℤ → Type 0
+SameAt x y z i n = (x ≡ to_z w64 (of_z w64 (get_or n i (pos 0)))) × (y ≡ to_z w64 (of_z w64 (get_or n (i + 1) (pos 0)))) × (z ≡ to_z w64 (of_z w64 (get_or n (i + 2) (pos 0))))
+
+pub entries_are : (p : Placement) (n : List ℤ) → length n ≡ 12 → Words 12 0 n → SameAt p.x.x p.x.y p.x.z 0 n → SameAt p.y.x p.y.y p.y.z 3 n → SameAt p.z.x p.z.y p.z.z 6 n → SameAt p.shift.x p.shift.y p.shift.z 9 n → entries p ≡ n
+entries_are p n e f x y z t = row x (row y (row z (row t refl))) ∙ words_are 12 0 n f ∙ twelve n e
   where
     row : {x y z x' y' z' : ℤ} {xs ys : List ℤ} → (x ≡ x') × (y ≡ y') × (z ≡ z') → xs ≡ ys → x ∷ y ∷ z ∷ xs ≡ x' ∷ y' ∷ z' ∷ ys
     row h k = ap₂ ◌∷◌ h.0 (ap₂ ◌∷◌ h.1 (ap₂ ◌∷◌ h.2 k))

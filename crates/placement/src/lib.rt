@@ -4,4 +4,4 @@
 mod parts;
 mod twelve;
 
-pub use parts::{Placement, Row, Shift};
+pub use parts::{Placement, Row, Shift, Triple};

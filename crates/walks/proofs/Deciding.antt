@@ -5,7 +5,7 @@ use Rattle.std.specs.List.{ContainsAt as Has, AllByRecursion}
 use Rattle.std.proofs.ByRecursion.{all-has, has_get_or, has_append_right}
 use Rattle.hull.specs.declared.direction.Direction.{Direction}
 use Rattle.placement.specs.declared.parts.Placement.{Placement}
-use Rattle.pairs.specs.declared.axis.Axis.{Axis}
+use Rattle.pairs.specs.Records.{Axis}
 use Rattle.pairs.specs.Axes.{axes_of_lem}
 use Rattle.pairs.specs.Gaps.{first_gap_lem, second_gap_lem, Parts, Parted, rounded_axis}
 

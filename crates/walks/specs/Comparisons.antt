@@ -7,7 +7,7 @@ use Rattle.hull.specs.declared.direction.Direction.{Direction}
 use Rattle.hull.specs.Units.{slack, rounding}
 use Rattle.hull.specs.Measures.{Spread}
 use Rattle.placement.specs.declared.parts.Placement.{Placement}
-use Rattle.pairs.specs.declared.axis.Axis.{Axis}
+use Rattle.pairs.specs.Records.{Axis}
 use Rattle.pairs.specs.Products.{apart}
 use Rattle.pairs.specs.Axes.{axes_of_lem}
 use Rattle.pairs.specs.Directions.{moved_size, standing_size}

@@ -1,10 +1,10 @@
 use Rattle.std.proofs.Common.{◌≡◌, ℕ, ◌<◌, ◌≤◌, map, get_or, ℤ, nat_abs, ap, ◌∙◌, lit<, w16}
 use Rattle.std.proofs.lemmas.List.{get_or-map}
 use Rattle.integers.proofs.Fits.{read}
-use Rattle.pairs.specs.declared.axis.FixedAxis.{FixedAxis}
+use Rattle.pairs.specs.Records.{FixedAxis}
 use Rattle.pairs.specs.Units.{fixed_count, fixed_limit}
 use Rattle.pairs.specs.Axes.{fixed_axes, no_fixed}
-use Rattle.pairs.proofs.Same.{same_fixed}
+use Rattle.pairs.proofs.Same.{same_axis}
 use Rattle.pairs.proofs.Words.{word}
 use Rattle.axes.proofs.axis_list.fixed_axis.Goals as goal
 
@@ -22,4 +22,4 @@ pub returns : goal.returns
 returns c =
     let i = c.args.i in
     let a = get_or fixed_axes i no_fixed in
-    same_fixed _ a (read_at i c.requires (λ r. r.0) a.x_in) (read_at i c.requires (λ r. r.1) a.y_in) (read_at i c.requires (λ r. r.2) a.z_in)
+    same_axis _ a (read_at i c.requires (λ r. r.0) a.x_in) (read_at i c.requires (λ r. r.1) a.y_in) (read_at i c.requires (λ r. r.2) a.z_in)

@@ -1,7 +1,7 @@
 use Rattle.std.proofs.Common.{◌≡◌, ◌≤◌, ℤ, nat_abs, sym, ap, ◌∙◌, subst, lit<, w16}
 use Rattle.integers.proofs.Fits.{read}
-use Rattle.placement.specs.declared.parts.Row.{Row}
-use Rattle.pairs.specs.declared.axis.FixedAxis.{FixedAxis}
+use Rattle.placement.specs.Parts.{Row}
+use Rattle.pairs.specs.Records.{FixedAxis}
 use Rattle.pairs.specs.Units.{axis_limit}
 use Rattle.pairs.specs.Axes.{turned, turned_entry, turned_small}
 use Rattle.pairs.proofs.Same.{same_axis}

@@ -3,7 +3,7 @@ use Rattle.std.proofs.lemmas.Int.{to_z-of_z}
 use Rattle.hull.specs.Directions.{direction}
 use Rattle.placement.specs.declared.parts.Placement.{Placement}
 use Rattle.placement.specs.Units.{matrix_limit}
-use Rattle.pairs.specs.declared.axis.Axis.{Axis}
+use Rattle.pairs.specs.Records.{Axis}
 use Rattle.pairs.specs.Products.{along}
 use Rattle.pairs.specs.Directions.{moved_direction}
 use Rattle.pairs.proofs.Words.{word, product_read}

@@ -1,6 +1,0 @@
-use Rattle.std.proofs.Common.{arith}
-use borrow.Author.Differences.{ints}
-use Rattle.placement.proofs.twelve.shift.Goals as goal
-
-pub returns-then-unsigned_abs-le-SHIFT_LIMIT-3 : goal.returns-then-unsigned_abs-le-SHIFT_LIMIT-3
-returns-then-unsigned_abs-le-SHIFT_LIMIT-3 c = (omega (arith, ints), omega (arith, ints), omega (arith, ints))
