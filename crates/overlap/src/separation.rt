@@ -1,37 +1,35 @@
 // Two hulls along the axes of a placement.
-ghost use Rattle.std.specs.Prelude.{◌≡◌, ◌^◌, ◌≤◌, T, pos, ◌-ℤ◌, neg_ℤ, ◌<ℤ◌, MatchOption, unsigned_abs};
+ghost use Rattle.std.specs.Prelude.{◌≡◌, ◌^◌, ◌≤◌, T, ◌+ℤ◌, ◌-ℤ◌, neg_ℤ, MatchOption, unsigned_abs};
 ghost use Rattle.pairs.specs.Gaps.{first_gap_lem, second_gap_lem, Parts, GapsAt, Parted};
 ghost use Rattle.pairs.specs.Claims.{TouchingUnparted, UnpartedNear, PartedUnrounded, UnpartedUnroundedNear};
 ghost use Rattle.pairs.specs.Units.{axis_count};
 
 use axes::Axes;
-use hull::Hull;
+use hull::{Direction, Hull};
 use pairs::SeparatingAxis;
 
-// The room between the lower end of one hull and the upper end of another, from how far they reach there.
-fn room(lower: i64, upper: i64) -> i128
-    ensures value { result ≡ neg_ℤ lower -ℤ upper }
-    ensures bound { unsigned_abs result ≤ 2 ^ 64 }
+// The room between the upper end of one hull and the lower end of another that is lifted, from the directions of these ends.
+fn room<H: Hull>(below: &H, up: &Direction, above: &H, down: &Direction, lift: i128) -> i128
+    requires { unsigned_abs lift ≤ 2 ^ 64 }
+    ensures { result ≡ neg_ℤ (H.reaches above.now down.now) +ℤ lift -ℤ H.reaches below.now up.now }
 {
-    -(lower as i128) - upper as i128
+    lift - above.reach(down) as i128 - below.reach(up) as i128
 }
 
 // The room between the standing hull's upper end and the moved hull's lower end along the axis.
 pub fn first_gap<H: Hull>(axis: &SeparatingAxis, moved: &H, standing: &H) -> i128
     ensures { result ≡ first_gap_lem (H.reaches moved.now) (H.reaches standing.now) axis.now }
 {
-    let lower = moved.reach(&axis.moved_down);
-    let upper = standing.reach(&axis.standing_up);
-    room(lower, upper) + axis.shift as i128
+    let lift = axis.shift as i128;
+    room(standing, &axis.standing_up, moved, &axis.moved_down, lift)
 }
 
 // The room between the moved hull's upper end and the standing hull's lower end along the axis.
 pub fn second_gap<H: Hull>(axis: &SeparatingAxis, moved: &H, standing: &H) -> i128
     ensures { result ≡ second_gap_lem (H.reaches moved.now) (H.reaches standing.now) axis.now }
 {
-    let lower = standing.reach(&axis.standing_down);
-    let upper = moved.reach(&axis.moved_up);
-    room(lower, upper) - axis.shift as i128
+    let lift = -(axis.shift as i128);
+    room(moved, &axis.moved_up, standing, &axis.standing_down, lift)
 }
 
 // Both gaps along an axis of the placement, counted from 0.
@@ -44,20 +42,12 @@ pub fn gaps<H: Hull>(axes: &Axes, axis: usize, moved: &H, standing: &H) -> Optio
     Some((first, second))
 }
 
-// Whether a gap is above 0.
-fn above_zero(gap: i128) -> bool
-    ensures yes { T result → pos 0 <ℤ gap }
-    ensures no { pos 0 <ℤ gap → T result }
-{
-    gap > 0
-}
-
 // Whether the axis parts the hulls.
 fn parts<H: Hull>(axis: &SeparatingAxis, moved: &H, standing: &H) -> bool
     ensures yes { T result → Parts (H.reaches moved.now) (H.reaches standing.now) axis.now }
     ensures no { Parts (H.reaches moved.now) (H.reaches standing.now) axis.now → T result }
 {
-    above_zero(first_gap(axis, moved, standing)) || above_zero(second_gap(axis, moved, standing))
+    first_gap(axis, moved, standing) > 0 || second_gap(axis, moved, standing) > 0
 }
 
 // Whether some axis of the placement parts the moved hull and the standing one.
@@ -69,10 +59,5 @@ pub fn parted<H: Hull>(axes: &Axes, moved: &H, standing: &H) -> bool
     ensures parts_unrounded { PartedUnrounded axes.now.placement (H.fits moved.now) (H.fits standing.now) H.faced (H.reaches moved.now) (H.reaches standing.now) H.unrounded }
     ensures near_unrounded { UnpartedUnroundedNear axes.now.placement (H.fits moved.now) (H.fits standing.now) H.faced H.unrounded (T result) }
 {
-    for axis in &axes.each {
-        if parts(axis, moved, standing) {
-            return true;
-        }
-    }
-    false
+    axes.each.iter().any(|axis| parts(axis, moved, standing))
 }
