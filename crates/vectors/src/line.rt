@@ -1,50 +1,23 @@
 // One test vector.
+use super::fault::Fault;
 use super::pieces::{Pair, direction, hull_of, pair_of};
+use super::sort::{Kind, Sort};
 use ball::BallHull;
 use faced::{BoxHull, ManyHull};
-use hull::{Hull, Named};
+use hull::Hull;
 use overlap::{gaps, parted};
-use std::alloc::{AllocError, Global};
-
-#[derive(Clone, Copy)]
-pub enum Sort {
-    Reach,
-    Gap,
-    Parting,
-}
-
-#[derive(Clone, Copy)]
-pub enum Verdict {
-    Agrees(Sort),
-    Differs,
-    Malformed,
-}
-
-fn sort_of(word: &str) -> Option<Sort> {
-    match word {
-        "reach" => Some(Sort::Reach),
-        "gap" => Some(Sort::Gap),
-        "parted" => Some(Sort::Parting),
-        _ => None,
-    }
-}
+use std::alloc::Global;
 
 // The numbers of a text, parted by single spaces.
-fn read_numbers(heap: Global, text: &str) -> Result<Option<Vec<i128>>, AllocError> {
-    let mut numbers = Vec::new(heap);
-    for word in text.split(' ') {
-        match word.parse::<i128>() {
-            Ok(number) => numbers.push(number)?,
-            Err(_) => return Ok(None),
-        }
-    }
-    Ok(Some(numbers))
+fn read_numbers(heap: Global, text: &str) -> Result<Vec<i128>, Fault> {
+    text.split(' ')
+        .map(|word| word.parse().map_err(|_| Fault::Malformed))
+        .try_collect(heap)
 }
 
 // Whether the reach is the expected one.
 fn reach_agrees<H: Hull>(n: &[i128]) -> Option<bool> {
-    let (count, rest) = n.split_first()?;
-    let [corners @ .., x, y, z, expected] = rest else {
+    let [count, corners @ .., x, y, z, expected] = n else {
         return None;
     };
     if corners.len() / 3 != usize::try_from(*count).ok()? {
@@ -89,37 +62,22 @@ fn agrees<H: Hull>(sort: Sort, n: &[i128]) -> Option<bool> {
     }
 }
 
-// Whether the vector agrees, by its kind.
-fn compare(sort: Sort, kind: &str, n: &[i128]) -> Option<bool> {
-    if kind == BoxHull::WORD {
-        agrees::<BoxHull>(sort, n)
-    } else if kind == ManyHull::WORD {
-        agrees::<ManyHull>(sort, n)
-    } else if kind == BallHull::WORD {
-        agrees::<BallHull>(sort, n)
-    } else {
-        None
+// The sort of a line's vector, where that agrees.
+pub(crate) fn judge(heap: Global, line: &str) -> Result<Sort, Fault> {
+    let (sort, rest) = line.split_once(' ').ok_or(Fault::Malformed)?;
+    let (kind, text) = rest.split_once(' ').ok_or(Fault::Malformed)?;
+    let sort = sort.parse()?;
+    let kind = kind.parse()?;
+    let numbers = read_numbers(heap, text)?;
+    let n = numbers.as_slice();
+    let found = match kind {
+        Kind::Box => agrees::<BoxHull>(sort, n),
+        Kind::Many => agrees::<ManyHull>(sort, n),
+        Kind::Ball => agrees::<BallHull>(sort, n),
+    };
+    match found {
+        Some(true) => Ok(sort),
+        Some(false) => Err(Fault::Differs),
+        None => Err(Fault::Malformed),
     }
-}
-
-// The sort, the kind and the numbers of a line, where it has them.
-fn split_line(line: &str) -> Option<(Sort, &str, &str)> {
-    let (sort, rest) = line.split_once(' ')?;
-    let (kind, numbers) = rest.split_once(' ')?;
-    Some((sort_of(sort)?, kind, numbers))
-}
-
-// The verdict on a line.
-pub(crate) fn judge(heap: Global, line: &str) -> Result<Verdict, AllocError> {
-    let Some((sort, kind, text)) = split_line(line) else {
-        return Ok(Verdict::Malformed);
-    };
-    let Some(numbers) = read_numbers(heap, text)? else {
-        return Ok(Verdict::Malformed);
-    };
-    Ok(match compare(sort, kind, numbers.as_slice()) {
-        Some(true) => Verdict::Agrees(sort),
-        Some(false) => Verdict::Differs,
-        None => Verdict::Malformed,
-    })
 }

@@ -3,53 +3,40 @@ use axes::Axes;
 use hull::{Corner, Direction, Hull};
 use placement::Placement;
 
+// These numbers as so many entries.
+fn entries<const N: usize>(n: &[i128]) -> Option<[i64; N]> {
+    if n.len() != N {
+        return None;
+    }
+    let mut entries = [0; N];
+    for (entry, x) in entries.iter_mut().zip(n) {
+        *entry = i64::try_from(*x).ok()?;
+    }
+    Some(entries)
+}
+
 // The corner with these three entries.
 fn corner(n: &[i128]) -> Option<Corner> {
-    let [x, y, z] = n else {
-        return None;
-    };
-    Corner::new(
-        i64::try_from(*x).ok()?,
-        i64::try_from(*y).ok()?,
-        i64::try_from(*z).ok()?,
-    )
+    let [x, y, z] = entries::<3>(n)?;
+    Corner::new(x, y, z)
 }
 
 // The direction with these three entries.
 pub(crate) fn direction(n: &[i128]) -> Option<Direction> {
-    let [x, y, z] = n else {
-        return None;
-    };
-    Direction::new(
-        i64::try_from(*x).ok()?,
-        i64::try_from(*y).ok()?,
-        i64::try_from(*z).ok()?,
-    )
+    let [x, y, z] = entries::<3>(n)?;
+    Direction::new(x, y, z)
 }
 
 // The hull of one corner or more.
 pub(crate) fn hull_of<H: Hull>(corners: &[i128]) -> Option<H> {
-    let mut hull: Option<H> = None;
-    for n in corners.chunks(3) {
-        let p = corner(n)?;
-        hull = Some(match hull {
-            Some(h) => h.more(p),
-            None => H::first(p),
-        });
-    }
-    hull
+    let mut corners = corners.chunks(3).map(corner);
+    let first = H::first(corners.next()??);
+    corners.try_fold(first, |hull, p| Some(hull.more(p?)))
 }
 
 // The axes of the placement with these twelve numbers.
 fn axes_of(n: &[i128]) -> Option<Axes> {
-    if n.len() != 12 {
-        return None;
-    }
-    let mut numbers = [0; 12];
-    for i in 0..12 {
-        numbers[i] = i64::try_from(n[i]).ok()?;
-    }
-    Some(Axes::new(Placement::new(numbers)?))
+    Some(Axes::new(Placement::new(entries(n)?)?))
 }
 
 // A moved and a standing hull, and the axes of a placement.
