@@ -37,9 +37,10 @@ pub fn gaps<H: Hull>(axes: &Axes, axis: usize, moved: &H, standing: &H) -> Optio
     ensures { MatchOption result (axis_count ≤ axis) (λ g. GapsAt (H.reaches moved.now) (H.reaches standing.now) axes.now.placement axis g.0 g.1) }
 {
     let s = axes.each.get(axis)?;
-    let first = first_gap(s, moved, standing);
-    let second = second_gap(s, moved, standing);
-    Some((first, second))
+    Some((
+        first_gap(s, moved, standing),
+        second_gap(s, moved, standing),
+    ))
 }
 
 // Whether the axis parts the hulls.
