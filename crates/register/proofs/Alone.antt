@@ -17,9 +17,10 @@ use Rattle.book.specs.Trees.{untied, flags, tied}
 use Rattle.book.specs.Books.{Book, here, room, stored, first_no, turned, shelved, Said}
 use Rattle.book.proofs.Answering.{goes, stays, start_1, start_2, start_yes, facet_4, facet_5, facet_yes, close_yes, drop_yes}
 use Rattle.register.specs.declared.draft.Draft.{Draft}
+use Rattle.register.specs.declared.draft.Unclosed.{Unclosed}
 use Rattle.register.specs.declared.register.Register.{Register}
 use Rattle.register.specs.Tables.{FacetStands}
-use Rattle.register.specs.Registers.{book_of, entered, FilledBy, lone_questions, FiledAlone}
+use Rattle.register.specs.Registers.{book_of, entered, filed, FilledBy, lone_questions, FiledAlone}
 
 -- a call has one answer, and leaves one book
 same : {b : Book} {c : Call} {a a' : Answer} {x x' : Book} → Said b c a x → Said b c a' x' → (a ≡ a') × (x ≡ x')
@@ -141,11 +142,9 @@ module _ (b : Book) (n : List ℤ) where
           closing : {a : Answer} {b3 : Book} → Said b2 (call.Close back.mark) a b3 → (a ≡ answer.Filed (length b.objects)) × (b3 ≡ shelved (turned b (Some page)))
           closing d = same d (rw (same-draft, taken.1) (goes (turned b (Some page)) (call.Close draft.mark) _ _ (close_yes (turned b (Some page)) draft.mark (here_on page) one) refl refl))
 
-          pub closed : (i : ℕ) (b3 : Book) → Said b2 (call.Close back.mark) (answer.Filed i) b3 → FiledAlone b n (Ok i) b3
-          closed i b3 d = let e = closing d in (taken.0, cc, e.1)
-
-          pub not_closed : {X : Type 0} (w : Refusal) (b3 : Book) → Said b2 (call.Close back.mark) (answer.Refused w) b3 → X
-          not_closed w b3 d = let e = closing d in never (cc)
+          pub closes : (k : Result ℕ Unclosed) (b3 : Book) → Said b2 (call.Close back.mark) (filed k) b3 → (i : ℕ) × (k ≡ Ok i) × FiledAlone b n (Ok i) b3
+          closes (Ok i) b3 d = let e = closing d in (i, refl, (taken.0, cc, e.1))
+          closes (Err why) b3 d = let e = closing d in never (cc)
 
 -- the table, through the calls
 module _ {H : Type 0} (r0 r1 r2 r3 : Register H) (t1 : r1.table.now ≡ r0.table.now) (t3 : r3.table.now ≡ r2.table.now) (begin : Corner → H) (grow : H → Corner → H) (e : Facet) (r : Result ℕ Refusal) (w : FilledBy (FacetStands begin grow e) r1 r2 r) where

@@ -39,11 +39,15 @@ abbrev pub entered : Result ℕ Refusal → Answer
 entered (Ok n) = answer.Entered n
 entered (Err why) = answer.Refused why
 
+-- why a draft was not closed, without the draft
+abbrev pub refusal_of : Unclosed → Refusal
+refusal_of (unclosed.NotThisDraft d) = refusal.NotThisDraft
+refusal_of unclosed.PartsLeftOver = refusal.PartsLeftOver
+
 -- what close answers
 abbrev pub filed : Result ℕ Unclosed → Answer
 filed (Ok n) = answer.Filed n
-filed (Err (unclosed.NotThisDraft d)) = answer.Refused refusal.NotThisDraft
-filed (Err unclosed.PartsLeftOver) = answer.Refused refusal.PartsLeftOver
+filed (Err why) = answer.Refused (refusal_of why)
 
 -- what drop answers
 abbrev pub removed : Result ℕ (Draft × Refusal) → Answer

@@ -24,11 +24,7 @@ impl<'t, H: Hull> Register<'t, H> {
         ensures grown { Grown H.begun H.grown result }
         ensures table { result.table.now ≡ table.old }
     {
-        let end = if table.len() < PLACES {
-            table.len()
-        } else {
-            PLACES
-        };
+        let end = table.len().min(PLACES);
         Register {
             ledger: Ledger {
                 mark,

@@ -11,7 +11,7 @@ use super::register::Register;
 use super::ties::number_below;
 use super::walk::walk;
 use axes::Axes;
-use book::Refusal;
+use book::{Refusal, Span};
 use hull::Hull;
 use placement::Placement;
 
@@ -20,13 +20,9 @@ impl<'t, H: Hull> Register<'t, H> {
     pub fn object(&self, number: i64) -> Option<&[Place<H>]>
         ensures { MatchOption result (closed (book_of self.now) number ≡ false) (λ s. (closed (book_of self.now) number ≡ true) × (s.now ≡ places_of self.now number)) }
     {
-        let Some(k) = number_below(number, self.ledger.closed) else {
-            return None;
-        };
-        let span = self.ledger.spans[k];
+        let k = number_below(number, self.ledger.closed)?;
+        let Span { from, to } = self.ledger.spans[k];
         let table = &*self.table;
-        let from = span.from;
-        let to = span.to;
         Some(&table[from..to])
     }
 
@@ -42,15 +38,9 @@ impl<'t, H: Hull> Register<'t, H> {
         ensures stored { Answers (book_of self.now) (comparison moved standing placement) (WalkStored H.reaches (places_of self.now moved) (places_of self.now standing)) pairs.old pairs.new (compared result) }
         ensures grown { Grown H.begun H.grown self.now → Answers (book_of self.now) (comparison moved standing placement) (Listing H.begun H.grown H.reaches H.faced H.unrounded (object (book_of self.now) moved) (object (book_of self.now) standing)) pairs.old pairs.new (compared result) }
     {
-        let Some(left) = self.object(moved) else {
-            return Err(Refusal::NoSuchObject);
-        };
-        let Some(right) = self.object(standing) else {
-            return Err(Refusal::NoSuchObject);
-        };
-        let Some(placement) = Placement::new(placement) else {
-            return Err(Refusal::PlacementOutOfRange);
-        };
+        let left = self.object(moved).ok_or(Refusal::NoSuchObject)?;
+        let right = self.object(standing).ok_or(Refusal::NoSuchObject)?;
+        let placement = Placement::new(placement).ok_or(Refusal::PlacementOutOfRange)?;
         walk(&Axes::new(placement), left, right, pairs)
     }
 }

@@ -20,11 +20,7 @@ pub(crate) fn enter_one<H: Hull>(
     let draft = register.start()?;
     let (draft, answer) = draft.facet(register, numbers);
     match answer {
-        Ok(_) => match draft.close(register) {
-            Ok(number) => Ok(number),
-            Err(Unclosed::NotThisDraft(Draft { mark: _ })) => Err(Refusal::NotThisDraft),
-            Err(Unclosed::PartsLeftOver) => Err(Refusal::PartsLeftOver),
-        },
+        Ok(_) => draft.close(register).map_err(Unclosed::refusal),
         Err(why) => match draft.drop(register) {
             Ok(_) => Err(why),
             Err((Draft { mark: _ }, _)) => Err(why),

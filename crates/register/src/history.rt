@@ -7,7 +7,7 @@ ghost use Rattle.register.specs.Runs.{Replayed};
 use super::draft::{Draft, Unclosed};
 use super::place::Place;
 use super::register::Register;
-use book::{Answer, Call, Refusal};
+use book::{Answer, Call};
 use hull::Hull;
 
 // Makes one call, with a draft of the mark that it names.
@@ -16,35 +16,25 @@ pub(crate) fn make<H: Hull>(register: &mut Register<'_, H>, call: Call) -> Answe
     ensures grown { Grown H.begun H.grown register.old → Grown H.begun H.grown register.new }
 {
     match call {
-        Call::Start => match register.start() {
-            Ok(Draft { mark: _ }) => Answer::Started,
-            Err(why) => Answer::Refused(why),
-        },
+        Call::Start => register
+            .start()
+            .map_or_else(Answer::Refused, |Draft { mark: _ }| Answer::Started),
         Call::Facet(mark, numbers) => {
             let (Draft { mark: _ }, answer) = Draft { mark }.facet(register, numbers);
-            match answer {
-                Ok(number) => Answer::Entered(number),
-                Err(why) => Answer::Refused(why),
-            }
+            answer.map_or_else(Answer::Refused, Answer::Entered)
         }
         Call::Tie(mark, x, y) => {
             let (Draft { mark: _ }, answer) = Draft { mark }.tie(register, x, y);
-            match answer {
-                Ok(number) => Answer::Entered(number),
-                Err(why) => Answer::Refused(why),
-            }
+            answer.map_or_else(Answer::Refused, Answer::Entered)
         }
-        Call::Close(mark) => match (Draft { mark }).close(register) {
-            Ok(number) => Answer::Filed(number),
-            Err(Unclosed::NotThisDraft(Draft { mark: _ })) => Answer::Refused(
-                Refusal::NotThisDraft,
-            ),
-            Err(Unclosed::PartsLeftOver) => Answer::Refused(Refusal::PartsLeftOver),
-        },
-        Call::Drop(mark) => match (Draft { mark }).drop(register) {
-            Ok(count) => Answer::Removed(count),
-            Err((Draft { mark: _ }, why)) => Answer::Refused(why),
-        },
+        Call::Close(mark) => (Draft { mark })
+            .close(register)
+            .map_err(Unclosed::refusal)
+            .map_or_else(Answer::Refused, Answer::Filed),
+        Call::Drop(mark) => (Draft { mark })
+            .drop(register)
+            .map_err(|(Draft { mark: _ }, why)| why)
+            .map_or_else(Answer::Refused, Answer::Removed),
     }
 }
 

@@ -14,10 +14,10 @@ use hull::Hull;
 fn answer_of(res: Result<(usize, u64), Refusal>) -> Answer
     ensures { result ≡ compared res }
 {
-    match res {
-        Ok((pairs, tests)) => Answer::Listed(pairs, tests),
-        Err(why) => Answer::Refused(why),
-    }
+    res.map_or_else(
+        Answer::Refused,
+        |(pairs, tests)| Answer::Listed(pairs, tests),
+    )
 }
 
 // Makes a comparison whose list is the stretch of so many places from one on, cut to what there is. The answer comes with the place
@@ -36,9 +36,11 @@ fn compare_at<H: Hull>(
     ensures next { result.1 ≡ min (from + places) (length lists.old) }
 {
     let to = from + places.min(lists.len() - from);
-    let moved = comparison.moved;
-    let standing = comparison.standing;
-    let placement = comparison.placement;
+    let Comparison {
+        moved,
+        standing,
+        placement,
+    } = comparison;
     let result = register.compare(moved, standing, placement, &mut lists[from..to]);
     (answer_of(result), to)
 }

@@ -23,11 +23,7 @@ const HEIGHT: u8 = 32;
 pub(crate) fn number_below(n: i64, count: usize) -> Option<usize>
     ensures { MatchOption result ((k : ℕ) → n ≡ pos k → count ≤ k) (λ k. (n ≡ pos k) × (k < count)) }
 {
-    if n < 0 {
-        return None;
-    }
-    let number = n as usize;
-    if number < count { Some(number) } else { None }
+    usize::try_from(n).ok().filter(|k| *k < count)
 }
 
 // The two numbers as those of different items that no tie has.
@@ -35,12 +31,8 @@ fn free_parts<H: Hull>(page: &[Place<H>], x: i64, y: i64) -> Option<(usize, usiz
     requires { tieds_of page.now ≡ flags (items_of page.now) }
     ensures { MatchOption result (joins (items_of page.now) x y ≡ false) (λ q. FreeParts (items_of page.now) x y q.0 q.1) }
 {
-    let Some(i) = number_below(x, page.len()) else {
-        return None;
-    };
-    let Some(j) = number_below(y, page.len()) else {
-        return None;
-    };
+    let i = number_below(x, page.len())?;
+    let j = number_below(y, page.len())?;
     let left = &page[i];
     let right = &page[j];
     if i == j || left.tied || right.tied {
@@ -57,11 +49,7 @@ fn tie_height<H: Hull>(page: &[Place<H>], x: usize, y: usize) -> u8
 {
     let left = &page[x];
     let right = &page[y];
-    if left.height < right.height {
-        right.height + 1
-    } else {
-        left.height + 1
-    }
+    left.height.max(right.height) + 1
 }
 
 // The hull, grown over the corners of a facet.

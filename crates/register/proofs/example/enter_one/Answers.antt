@@ -1,8 +1,6 @@
-use Rattle.std.proofs.Common.{rules}
+use Rattle.std.proofs.Common.{◌≡◌, Ok}
 use Rattle.std.proofs.lemmas.Result.{err_from_is_err_and}
-use Rattle.book.specs.declared.refusal.Refusal.TheVariants.{NotThisDraft, PartsLeftOver}
-use Rattle.register.specs.Registers.{book_of}
-use Rattle.register.proofs.Alone.{not_started, dropped, not_dropped, closed, not_closed, table_kept, table_stands}
+use Rattle.register.proofs.Alone.{not_started, dropped, not_dropped, closes, table_kept, table_stands}
 use Rattle.register.proofs.example.enter_one.Goals as goal
 
 pub returns-in_err-draft : goal.returns-in_err-draft
@@ -11,28 +9,18 @@ returns-in_err-draft g c =
     let p = err_from_is_err_and c.from_residual.result c.from_residual.ensures.1 in
     record { book = rw (p.1, p.2) (not_started _ _ _ _ s.said); table = rw p.1 s.table; grown = s.grown }
 
-pub returns-in-Ok-close : goal.returns-in-Ok-close
-returns-in-Ok-close g c =
+pub returns-in-Ok : goal.returns-in-Ok
+returns-in-Ok g c =
     let s = c.in_ok-draft.ensures in
     let f = c.facet-answer.ensures in
-    let d = c.in-Ok-close.ensures in
+    let d = c.close.ensures in
+    let k = closes _ _ _ s.said _ _ s.marked f.back _ _ f.said _ c.in-Ok.is _ _ d.said in
+    let m : c.map_err.result ≡ Ok k.0 = rw k.1 at c.map_err.ensures.cases in
     record {
-      book = closed _ _ _ s.said _ _ s.marked f.back _ _ f.said _ c.in-Ok.is _ _ d.said;
-      table = table_stands c.args.register.now c.start.new.self c.facet-answer.new.register c.close.new.register s.table d.table g.H.Hull.begun g.H.Hull.grown _ _ f.place _ c.in-Ok.is s.said;
+      book = rw m k.2;
+      table = rw m (table_stands c.args.register.now c.start.new.self c.facet-answer.new.register c.close.new.register s.table d.table g.H.Hull.begun g.H.Hull.grown _ _ f.place _ c.in-Ok.is s.said);
       grown = λ w. d.grown (f.grown (s.grown w));
     }
-
-pub returns-in-Err-NotThisDraft : goal.returns-in-Err-NotThisDraft
-returns-in-Err-NotThisDraft g c =
-    let s = c.in_ok-draft.ensures in
-    let f = c.facet-answer.ensures in
-    not_closed _ _ _ s.said _ _ s.marked f.back _ _ f.said _ c.in-Ok.is NotThisDraft (book_of c.close.new.register) (search rules)
-
-pub returns-in-Err-PartsLeftOver : goal.returns-in-Err-PartsLeftOver
-returns-in-Err-PartsLeftOver g c =
-    let s = c.in_ok-draft.ensures in
-    let f = c.facet-answer.ensures in
-    not_closed _ _ _ s.said _ _ s.marked f.back _ _ f.said _ c.in-Ok.is PartsLeftOver (book_of c.close.new.register) (search rules)
 
 pub returns-in-Ok-drop : goal.returns-in-Ok-drop
 returns-in-Ok-drop g c =

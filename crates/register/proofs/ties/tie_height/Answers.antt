@@ -6,29 +6,16 @@ use Rattle.register.proofs.ties.tie_height.Goals as goal
 pub overflow_add-result : goal.overflow_add-result
 overflow_add-result g c =
     let t = c.args.page.now in
-    let e = height_read t c.args.y c.index-page-y.result c.requires.within.1 c.index-page-y.is c.requires.known.0 in
-    let l = low_read t c.args.y c.index-page-y.result c.requires.within.1 c.index-page-y.is c.requires.known.1 in
-    search rules
-
-pub overflow_add-result-else-left-right : goal.overflow_add-result-else-left-right
-overflow_add-result-else-left-right g c =
-    let t = c.args.page.now in
-    let e = height_read t c.args.x c.index-page-x.result c.requires.within.0 c.index-page-x.is c.requires.known.0 in
+    let x = height_read t c.args.x c.index-page-x.result c.requires.within.0 c.index-page-x.is c.requires.known.0 in
+    let y = height_read t c.args.y c.index-page-y.result c.requires.within.1 c.index-page-y.is c.requires.known.0 in
     let l = low_read t c.args.x c.index-page-x.result c.requires.within.0 c.index-page-x.is c.requires.known.1 in
+    let m = low_read t c.args.y c.index-page-y.result c.requires.within.1 c.index-page-y.is c.requires.known.1 in
     search rules
 
-pub returns-then-left-right : goal.returns-then-left-right
+pub returns : goal.returns
 unfolding tie_height_lem
-returns-then-left-right g c =
+returns g c =
     let t = c.args.page.now in
     let x = height_read t c.args.x c.index-page-x.result c.requires.within.0 c.index-page-x.is c.requires.known.0 in
     let y = height_read t c.args.y c.index-page-y.result c.requires.within.1 c.index-page-y.is c.requires.known.0 in
-    omega (arith, x, y, c.if-left-right.true)
-
-pub returns-else-left-right : goal.returns-else-left-right
-unfolding tie_height_lem
-returns-else-left-right g c =
-    let t = c.args.page.now in
-    let x = height_read t c.args.x c.index-page-x.result c.requires.within.0 c.index-page-x.is c.requires.known.0 in
-    let y = height_read t c.args.y c.index-page-y.result c.requires.within.1 c.index-page-y.is c.requires.known.0 in
-    omega (arith, x, y, c.if-left-right.false)
+    omega (arith, x, y, c.max.ensures)

@@ -14,25 +14,25 @@ no_span = record { from = 0; to = 0 }
 within : {H : Type 0} (r : Register H) (k : ℕ) → k < r.ledger.closed → (d : Span) → ((get_or r.ledger.spans k d).from ≤ (get_or r.ledger.spans k d).to) × ((get_or r.ledger.spans k d).to ≤ length r.table.now)
 within r k l d = let e = ends r k l d in (e.0, omega (arith, e.1, r.placed))
 
-pub returns-in_default : goal.returns-in_default
-returns-in_default g c =
+pub returns-in_err-k : goal.returns-in_err-k
+returns-in_err-k g c =
     let f : SFits w64 c.args.number = search rules in
-    closed_no c.args.self.now c.args.number (simp to_z-of_z at c.in_default.ensures)
+    rw c.from_residual.ensures (closed_no c.args.self.now c.args.number (simp to_z-of_z at c.in_err-k.ensures))
 
 pub offset_bounds-table-from : goal.offset_bounds-table-from
-offset_bounds-table-from g c = let e = within c.args.self.now c.in-Some.k c.in-Some.ensures.1 (record { from = 0; to = 0 }) in omega arith
+offset_bounds-table-from g c = let e = within c.args.self.now c.in_ok-k.k c.in_ok-k.ensures.1 (record { from = 0; to = 0 }) in omega arith
 
 pub slice_bounds-result-count : goal.slice_bounds-result-count
-slice_bounds-result-count g c = (within c.args.self.now c.in-Some.k c.in-Some.ensures.1 (record { from = 0; to = 0 })).0
+slice_bounds-result-count g c = (within c.args.self.now c.in_ok-k.k c.in_ok-k.ensures.1 (record { from = 0; to = 0 })).0
 
 pub slice_bounds-result-start : goal.slice_bounds-result-start
-slice_bounds-result-start g c = let e = within c.args.self.now c.in-Some.k c.in-Some.ensures.1 (record { from = 0; to = 0 }) in search rules
+slice_bounds-result-start g c = let e = within c.args.self.now c.in_ok-k.k c.in_ok-k.ensures.1 (record { from = 0; to = 0 }) in search rules
 
 pub returns : goal.returns
 unfolding slice
 returns g c =
     let f : SFits w64 c.args.number = search rules in
-    let n : c.args.number ≡ pos c.in-Some.k = simp to_z-of_z at c.in-Some.ensures.0 in
-    let l = c.in-Some.ensures.1 in
+    let n : c.args.number ≡ pos c.in_ok-k.k = simp to_z-of_z at c.in_ok-k.ensures.0 in
+    let l = c.in_ok-k.ensures.1 in
     let d : Span = record { from = 0; to = 0 } in
-    (closed_yes c.args.self.now c.args.number c.in-Some.k n l, sym (ap (places_of c.args.self.now) n ∙ places_at c.args.self.now c.in-Some.k l d))
+    (closed_yes c.args.self.now c.args.number c.in_ok-k.k n l, sym (ap (places_of c.args.self.now) n ∙ places_at c.args.self.now c.in_ok-k.k l d))
