@@ -2,6 +2,7 @@
 use Rattle.std.proofs.Common.{◌≡◌, ℕ, ◌<◌, ◌≤◌, true, false, List, [], ◌∷◌, length, ℤ, is_some, Some, None, Ok, Err, Option, Result, sym, refl, ap, ◌∙◌, ⊎_elim, arith}
 use Rattle.std.proofs.lemmas.Bool.{cases_Bool, cases_lt, lt-ltb, le-ltb, eq-eqb}
 use Rattle.hull.specs.declared.corner.Corner.{Corner}
+use Rattle.hull.specs.declared.kind.Hull as hull
 use Rattle.book.specs.declared.item.Facet.{Facet}
 use Rattle.book.specs.declared.item.Item.{Item}
 use Rattle.book.specs.declared.item.Item.TheVariants as item
@@ -147,7 +148,7 @@ module _ (b : Book) (n : List ℤ) where
           closes (Err why) b3 d = let e = closing d in never (cc)
 
 -- the table, through the calls
-module _ {H : Type 0} (r0 r1 r2 r3 : Register H) (t1 : r1.table.now ≡ r0.table.now) (t3 : r3.table.now ≡ r2.table.now) (begin : Corner → H) (grow : H → Corner → H) (e : Facet) (r : Result ℕ Refusal) (w : FilledBy (FacetStands begin grow e) r1 r2 r) where
+module _ {H : Type 0} {kind : hull.Ghosts H} (r0 r1 r2 r3 : Register H kind) (t1 : r1.table.now ≡ r0.table.now) (t3 : r3.table.now ≡ r2.table.now) (begin : Corner → H) (grow : H → Corner → H) (e : Facet) (r : Result ℕ Refusal) (w : FilledBy (FacetStands begin grow e) r1 r2 r) where
   pub table_kept : (why : Refusal) → r ≡ Err why → r3.table.now ≡ r0.table.now
   table_kept why is = let v : r2.table.now ≡ r1.table.now = rw is at w in cc
 

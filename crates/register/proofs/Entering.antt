@@ -2,7 +2,7 @@
 use Rattle.std.proofs.Common.{◌≡◌, ℕ, ◌+◌, ◌-◌, ◌<◌, ◌≤◌, Bool, true, false, List, length, get_or, drop, set, ℤ, nat_abs, Some, None, fold, sym, refl, ap, ◌∙◌, subst, arith}
 use Rattle.std.proofs.lemmas.List.{length-set, set-get_or, get_or-take, get_or-drop}
 use Rattle.std.proofs.lemmas.Bool.{and_from, le-leb, lt-leb}
-use Rattle.hull.specs.declared.corner.Corner.{Corner}
+use Rattle.hull.specs.declared.kind.Hull as hull
 use Rattle.book.specs.declared.item.Facet.{Facet}
 use Rattle.book.specs.declared.item.Item.{Item}
 use Rattle.book.specs.declared.item.Item.TheVariants as item
@@ -16,41 +16,51 @@ use Rattle.book.specs.Trees.{tree, trees, tree_of, corners, flags}
 use Rattle.book.specs.Books.{written, stored, here, room, joins, low, tie_height_lem, questions, first_no, added, Said}
 use Rattle.book.specs.Pages.{allowed, sane, heights}
 use Rattle.book.specs.Ledgers.{slice, drafted, book_over, repaged}
-use Rattle.book.specs.Hulls.{GrownFrom, GrownPage, GrownOver}
+use Rattle.book.specs.Hulls.{GrownFrom, GrownOver}
 use Rattle.book.proofs.Slices.{length_slice}
 use Rattle.book.proofs.Forest.{Joins, joins_parts, tie_allowed}
 use Rattle.book.proofs.Flags.{untied_two}
 use Rattle.book.proofs.Joining.{joins_pos}
 use Rattle.book.proofs.LedgerLaws.{Sound, sound_cleared, sound_facet, sound_tie, book_pushed, page_length, page_some, here_parts}
 use Rattle.book.proofs.Answering.{tie_5, tie_7, tie_yes}
-use Rattle.book.proofs.Growth.{grown_pushed, from_tie}
+use Rattle.book.proofs.Growth.{grown_cleared, grown_pushed, from_tie}
 use Rattle.register.specs.declared.place.Place.{Place}
 use Rattle.register.specs.declared.register.Register.{Register}
 use Rattle.register.specs.Tables.{items_of, heights_of, tieds_of, hulls_of, Joined, FreeParts, Wrote, place_of, tie_place, TieStands}
-use Rattle.register.specs.Registers.{book_of, Grown, Joining, with_tie}
+use Rattle.register.specs.Registers.{book_of, Joining, with_tie}
 use Rattle.register.proofs.Flagging.{thrice, length_thrice, joined}
 use Rattle.register.proofs.Fields.{table_of, sound, sound_as, Ghosts, spread, stored_place, length_items, length_heights, length_tieds, length_hulls, items_set, heights_set, tieds_set, hulls_set, items_slice, heights_slice, tieds_slice, hulls_slice, items_at, hulls_at}
 
 -- the page is off while places are flagged
-pub off : {H : Type 0} (r : Register H) (t : List (Place H)) → length t ≡ length (table_of r) → items_of t ≡ items_of (table_of r)
+pub off : {H : Type 0} {kind : hull.Ghosts H} (r : Register H kind) (t : List (Place H)) → length t ≡ length (table_of r) → items_of t ≡ items_of (table_of r)
     → Sound (repaged r.ledger r.ledger.drafting r.ledger.base 0) (length t) (items_of t) (heights_of t) (tieds_of t)
 off r t n e = sound_as _ (length (table_of r)) _ _ _ t n e refl refl (sound_cleared r.ledger _ _ _ _ (sound r) r.ledger.drafting r.counted.2 (heights_of t) (tieds_of t))
 
--- so it stays sound where a place is written with the item that it has
-module _ {H : Type 0} (r : Register H) (t : List (Place H)) (n : length t ≡ length (table_of r)) (e : items_of t ≡ items_of (table_of r)) (i : ℕ) (d p : Place H) (h : i < length (table_of r)) (is : p.item ≡ (get_or (table_of r) i d).item) where
+-- no hull of the page is spoken of then
+pub grown_off : {H : Type 0} {kind : hull.Ghosts H} (r : Register H kind) (t : List (Place H)) → items_of t ≡ items_of (table_of r) → hulls_of t ≡ hulls_of (table_of r)
+    → GrownOver kind.begun kind.grown (repaged r.ledger r.ledger.drafting r.ledger.base 0) (items_of t) (hulls_of t)
+grown_off {kind} r t e eh = rw (e, eh) (grown_cleared kind.begun kind.grown r.ledger _ _ r.grown r.ledger.drafting)
+
+-- so it stays sound where a place is written with the item and the hull that it has
+module _ {H : Type 0} {kind : hull.Ghosts H} (r : Register H kind) (t : List (Place H)) (n : length t ≡ length (table_of r)) (e : items_of t ≡ items_of (table_of r)) (eh : hulls_of t ≡ hulls_of (table_of r)) (i : ℕ) (d p : Place H) (h : i < length (table_of r)) (is : p.item ≡ (get_or (table_of r) i d).item) (its : p.hull ≡ (get_or (table_of r) i d).hull) where
   pub items_off : items_of (set t i p) ≡ items_of (table_of r)
   items_off =
       let all = items_of (table_of r) in
       items_set t i p ∙ (ap (λ l. set l i p.item) e ∙ (ap (set all i) (is ∙ sym (items_at (table_of r) i d h p.item)) ∙ set-get_or all i p.item))
 
+  pub hulls_off : hulls_of (set t i p) ≡ hulls_of (table_of r)
+  hulls_off =
+      let all = hulls_of (table_of r) in
+      hulls_set t i p ∙ (ap (λ l. set l i p.hull) eh ∙ (ap (set all i) (its ∙ sym (hulls_at (table_of r) i d h p.hull)) ∙ set-get_or all i p.hull))
+
   pub length_off : length (set t i p) ≡ length (table_of r)
   length_off = length-set t i p ∙ n
 
-  pub ghosts_off : Ghosts (repaged r.ledger r.ledger.drafting r.ledger.base 0) (set t i p)
-  ghosts_off = spread _ (set t i p) (off r (set t i p) length_off items_off) (rw length_off r.alone)
+  pub ghosts_off : Ghosts kind (repaged r.ledger r.ledger.drafting r.ledger.base 0) (set t i p)
+  ghosts_off = spread kind _ (set t i p) (off r (set t i p) length_off items_off) (rw length_off r.alone) (grown_off r (set t i p) items_off hulls_off)
 
 -- item x of the draft stands so far after its first place
-item_place : {H : Type 0} (r : Register H) (x : ℕ) → place_of (book_of r) x ≡ r.ledger.base + x
+item_place : {H : Type 0} {kind : hull.Ghosts H} (r : Register H kind) (x : ℕ) → place_of (book_of r) x ≡ r.ledger.base + x
 unfolding book_of book_over
 item_place r x = omega (arith, r.kept.1, r.alone.0)
 
@@ -67,7 +77,7 @@ module _ {H : Type 0} (before : List (Place H)) (at : ℕ) (p : Place H) (e : It
   wrote_joined after i j w = record { hull = p.hull; items = w.items ∙ ap (set (items_of before) at) is; hulls = w.hulls }
 
 -- a facet is written at the first free place
-module _ {H : Type 0} (r : Register H) (o : r.ledger.drafting ≡ true) (lt : r.ledger.used < r.ledger.end) (f : Facet) (p : Place H) (is : p.item ≡ item.Facet f) where
+module _ {H : Type 0} {kind : hull.Ghosts H} (r : Register H kind) (o : r.ledger.drafting ≡ true) (lt : r.ledger.used < r.ledger.end) (f : Facet) (p : Place H) (is : p.item ≡ item.Facet f) where
   abbrev table : List (Place H)
   table = set (table_of r) r.ledger.used p
 
@@ -77,22 +87,22 @@ module _ {H : Type 0} (r : Register H) (o : r.ledger.drafting ≡ true) (lt : r.
   items_facet : items_of table ≡ set (items_of (table_of r)) r.ledger.used (item.Facet f)
   items_facet = items_set (table_of r) r.ledger.used p ∙ ap (set (items_of (table_of r)) r.ledger.used) is
 
-  pub ghosts_facet : p.height ≡ 0 → p.tied ≡ false → Ghosts ledger table
-  ghosts_facet eh et =
+  grown_facet : GrownFrom kind.begun kind.grown (corners_of f) p.hull → GrownOver kind.begun kind.grown ledger (items_of table) (hulls_of table)
+  grown_facet m = rw (items_facet, hulls_set (table_of r) r.ledger.used p) (grown_pushed kind.begun kind.grown r.ledger _ _ r.grown _ (r.ledger.loose + 1) _ _ (sound r) (length_items (table_of r)) (length_hulls (table_of r)) (item.Facet f) p.hull lt m)
+
+  pub ghosts_facet : p.height ≡ 0 → p.tied ≡ false → GrownFrom kind.begun kind.grown (corners_of f) p.hull → Ghosts kind ledger table
+  ghosts_facet eh et m =
       let t = table_of r in
       let at = r.ledger.used in
-      spread ledger table (sound_as ledger (length t) _ _ _ table (length-set t at p) items_facet (heights_set t at p ∙ ap (set (heights_of t) at) eh) (tieds_set t at p ∙ ap (set (tieds_of t) at) et)
-      (sound_facet r.ledger _ _ _ _ (sound r) (length_items t) (length_heights t) (length_tieds t) o lt f)) (rw (length-set t at p) r.alone)
+      spread kind ledger table (sound_as ledger (length t) _ _ _ table (length-set t at p) items_facet (heights_set t at p ∙ ap (set (heights_of t) at) eh) (tieds_set t at p ∙ ap (set (tieds_of t) at) et)
+      (sound_facet r.ledger _ _ _ _ (sound r) (length_items t) (length_heights t) (length_tieds t) o lt f)) (rw (length-set t at p) r.alone) (grown_facet m)
 
   pub book_facet : book_over ledger (items_of table) ≡ added (book_of r) (item.Facet f)
   unfolding book_of
   book_facet = ap (book_over ledger) items_facet ∙ book_pushed r.ledger _ _ _ _ (sound r) (length_items (table_of r)) (item.Facet f) o lt (r.ledger.loose + 1)
 
-  pub grown_facet : (begun : Corner → H) (grown : H → Corner → H) → GrownFrom begun grown (corners_of f) p.hull → Grown begun grown r → GrownOver begun grown ledger (items_of table) (hulls_of table)
-  grown_facet begun grown m w = rw (items_facet, hulls_set (table_of r) r.ledger.used p) (grown_pushed begun grown r.ledger _ _ w _ (r.ledger.loose + 1) _ _ (sound r) (length_items (table_of r)) (length_hulls (table_of r)) (item.Facet f) p.hull lt m)
-
 -- a tie is written there, and its parts are flagged
-module _ {H : Type 0} (r : Register H) (x y : ℕ) (tie : Place H) (j : Joining r x y tie) where
+module _ {H : Type 0} {kind : hull.Ghosts H} (r : Register H kind) (x y : ℕ) (tie : Place H) (j : Joining r x y tie) where
   abbrev page : List Item
   page = drafted r.ledger (items_of (table_of r))
 
@@ -125,6 +135,9 @@ module _ {H : Type 0} (r : Register H) (x y : ℕ) (tie : Place H) (j : Joining 
         (w.tieds ∙ ap (λ v. set (set (set (tieds_of (table_of r)) (r.ledger.base + x) true) (r.ledger.base + y) true) r.ledger.used v) j.untied)
         (sound_tie r.ledger _ _ _ _ (sound r) (length_items (table_of r)) (length_heights (table_of r)) (length_tieds (table_of r)) j.drafting j.room x y j.allowed)
 
+    grown_after : GrownOver kind.begun kind.grown (with_tie r.ledger) (items_of t) (hulls_of t)
+    grown_after = rw (items_after, w.hulls) (grown_pushed kind.begun kind.grown r.ledger _ _ r.grown _ (r.ledger.loose - 1) _ _ (sound r) (length_items (table_of r)) (length_hulls (table_of r)) (item.Tie x y) tie.hull j.room j.hull)
+
     pub joined_after : (q : Place H) → tie ≡ q → Joined (table_of r) t (place_of (book_of r) x) (place_of (book_of r) y) (stored (book_of r)) q
     joined_after q e = rw (← e, item_place r x, item_place r y, stored_place r) w
 
@@ -132,9 +145,6 @@ module _ {H : Type 0} (r : Register H) (x y : ℕ) (tie : Place H) (j : Joining 
       pub book_after : book_over l (items_of t) ≡ added (book_of r) (item.Tie x y)
       unfolding book_of
       book_after = ap (λ q. book_over q (items_of t)) e ∙ (ap (book_over (with_tie r.ledger)) items_after ∙ book_pushed r.ledger _ _ _ _ (sound r) (length_items (table_of r)) (item.Tie x y) j.drafting j.room (r.ledger.loose - 1))
-
-      pub grown_after : (begun : Corner → H) (grown : H → Corner → H) → GrownFrom begun grown (corners (tree_of (trees page) (item.Tie x y))) tie.hull → Grown begun grown r → GrownOver begun grown l (items_of t) (hulls_of t)
-      grown_after begun grown m g = rw (e, items_after, w.hulls) (grown_pushed begun grown r.ledger _ _ g _ (r.ledger.loose - 1) _ _ (sound r) (length_items (table_of r)) (length_hulls (table_of r)) (item.Tie x y) tie.hull j.room m)
 
   -- what holds after the three writes, where the two places are read with these defaults
   module _ (dl dr : Place H) where
@@ -144,13 +154,13 @@ module _ {H : Type 0} (r : Register H) (x y : ℕ) (tie : Place H) (j : Joining 
     pub joined3 : Joined (table_of r) t3 (r.ledger.base + x) (r.ledger.base + y) r.ledger.used tie
     joined3 = joined (table_of r) (r.ledger.base + x) (r.ledger.base + y) r.ledger.used dl dr tie x_place y_place
 
-    pub ghosts3 : Ghosts (with_tie r.ledger) t3
+    pub ghosts3 : Ghosts kind (with_tie r.ledger) t3
     ghosts3 =
         let n = length_thrice (table_of r) (r.ledger.base + x) (r.ledger.base + y) r.ledger.used dl dr tie x_place y_place in
-        spread _ t3 (sound_after t3 joined3 n) (rw n r.alone)
+        spread kind _ t3 (sound_after t3 joined3 n) (rw n r.alone) (grown_after t3 joined3)
 
 -- the places of the draft
-module _ {H : Type 0} (r : Register H) (p : List (Place H)) (e : p ≡ drafted r.ledger (table_of r)) where
+module _ {H : Type 0} {kind : hull.Ghosts H} (r : Register H kind) (p : List (Place H)) (e : p ≡ drafted r.ledger (table_of r)) where
   pub page_items : items_of p ≡ drafted r.ledger (items_of (table_of r))
   page_items = ap items_of e ∙ items_slice (table_of r) r.ledger.base r.ledger.used
 
@@ -218,14 +228,16 @@ module _ {H : Type 0} (r : Register H) (p : List (Place H)) (e : p ≡ drafted r
       unfolding low
       allowed_low l = le-leb _ height_limit (omega arith)
 
-      pub may_join : (tie : Place H) → r.ledger.drafting ≡ true → r.ledger.used < r.ledger.end → h ≤ height_limit → tie.item ≡ item.Tie i k → tie.height ≡ h → tie.tied ≡ false → Joining r i k tie
-      may_join tie o lt l ei eh et = record {
+      pub may_join : (tie : Place H) → r.ledger.drafting ≡ true → r.ledger.used < r.ledger.end → h ≤ height_limit → tie.item ≡ item.Tie i k → tie.height ≡ h → tie.tied ≡ false
+          → GrownFrom kind.begun kind.grown (corners (tree_of (trees (drafted r.ledger (items_of (table_of r)))) (item.Tie i k))) tie.hull → Joining r i k tie
+      may_join tie o lt l ei eh et m = record {
         drafting = o;
         room = lt;
         allowed = subst (λ q. allowed q (item.Tie i k) ≡ true) page_items (and_from _ _ f.free (allowed_low l));
         item = ei;
         height = eh ∙ (is ∙ ap (λ q. tie_height_lem q i k) page_items);
         untied = et;
+        hull = m;
       }
 
   page_book : r.ledger.drafting ≡ true → items_of p ≡ written (book_of r).page
@@ -245,22 +257,21 @@ module _ {H : Type 0} (r : Register H) (p : List (Place H)) (e : p ≡ drafted r
         hull_drafted ∙ (get_or-take (r.ledger.used - b) (drop b hs) i d (omega (arith, page_count)) ∙ (get_or-drop b hs i d ∙ ap (λ n. get_or hs n d) (sym (item_place r i))))
 
   -- the tie with its hull
-  module _ (grown : H → Corner → H) (i k : ℕ) (left : Place H) (h : i < length p) (is : left ≡ get_or p i left) (hull : H) (made : hull ≡ fold grown left.hull (corners (tree (items_of p) k))) where
-    pub hull_grown : (begun : Corner → H) → GrownPage begun grown (drafted r.ledger (items_of (table_of r))) (drafted r.ledger (hulls_of (table_of r)))
-        → GrownFrom begun grown (corners (tree_of (trees (drafted r.ledger (items_of (table_of r)))) (item.Tie i k))) hull
-    hull_grown begun g =
+  module _ (i k : ℕ) (left : Place H) (h : i < length p) (is : left ≡ get_or p i left) (hull : H) (made : hull ≡ fold kind.grown left.hull (corners (tree (items_of p) k))) where
+    pub hull_grown : GrownFrom kind.begun kind.grown (corners (tree_of (trees (drafted r.ledger (items_of (table_of r)))) (item.Tie i k))) hull
+    hull_grown =
         let q = drafted r.ledger (items_of (table_of r)) in
         let hs = drafted r.ledger (hulls_of (table_of r)) in
-        let eq : hull ≡ fold grown (get_or hs i hull) (corners (tree q k)) = made ∙ (ap (λ a. fold grown a (corners (tree (items_of p) k))) (hull_drafted i left h is hull) ∙ ap (λ s. fold grown (get_or hs i hull) (corners (tree s k))) page_items) in
-        let m = from_tie begun grown q hs i k hull g (omega (arith, ap length page_items, length_items p)) in
-        subst (λ a. GrownFrom begun grown (corners (tree_of (trees q) (item.Tie i k))) a) (sym eq) m
+        let eq : hull ≡ fold kind.grown (get_or hs i hull) (corners (tree q k)) = made ∙ (ap (λ a. fold kind.grown a (corners (tree (items_of p) k))) (hull_drafted i left h is hull) ∙ ap (λ s. fold kind.grown (get_or hs i hull) (corners (tree s k))) page_items) in
+        let m = from_tie kind.begun kind.grown q hs i k hull r.grown.page (omega (arith, ap length page_items, length_items p)) in
+        subst (λ a. GrownFrom kind.begun kind.grown (corners (tree_of (trees q) (item.Tie i k))) a) (sym eq) m
 
     pub tie_stands : (x y : ℤ) → FreeParts (items_of p) x y i k → (n : ℕ) → n ≡ tie_height_lem (items_of p) i k → (tie : Place H) → tie ≡ record { item = item.Tie i k; height = n; tied = false; hull = hull } → Joining r i k tie → (t : List (Place H))
-        → Joined (table_of r) t (r.ledger.base + i) (r.ledger.base + k) r.ledger.used tie → TieStands grown (nat_abs x) (nat_abs y) (book_of r) (table_of r) t
+        → Joined (table_of r) t (r.ledger.base + i) (r.ledger.base + k) r.ledger.used tie → TieStands kind.grown (nat_abs x) (nat_abs y) (book_of r) (table_of r) t
     tie_stands x y f n en tie et j t w d =
         let q = written (book_of r).page in
         let s = get_or (hulls_of (table_of r)) (place_of (book_of r) i) d in
         let ep = page_book j.drafting in
         let es = hull_stored i left h is d in
-        let same : tie ≡ tie_place grown q s i k = cc in
-        rw (f.x_is, f.y_is) (joined_after r i k tie j t w (tie_place grown q s i k) same)
+        let same : tie ≡ tie_place kind.grown q s i k = cc in
+        rw (f.x_is, f.y_is) (joined_after r i k tie j t w (tie_place kind.grown q s i k) same)

@@ -1,10 +1,12 @@
 -- A register's table field by field, and its invariant as one record.
 use Rattle.std.proofs.Common.{◌≡◌, ℕ, ◌<◌, min, Bool, List, length, get_or, set, arith}
 use Rattle.std.proofs.lemmas.List.{length-map, map-set, get_or-map}
+use Rattle.hull.specs.declared.kind.Hull as hull
 use Rattle.book.specs.declared.item.Item.{Item}
 use Rattle.book.specs.declared.ledger.Ledger.{Ledger}
 use Rattle.book.specs.Limits.{place_limit}
 use Rattle.book.specs.Books.{stored}
+use Rattle.book.specs.Hulls.{GrownOver}
 use Rattle.book.specs.Ledgers.{slice, Placed, Counted, Kept, Drafted}
 use Rattle.book.proofs.Slices.{slice_map}
 use Rattle.book.proofs.LedgerLaws.{Sound, stored_is}
@@ -85,19 +87,20 @@ module _ {H : Type 0} (t : List (Place H)) where
 abbrev pub Alone : Ledger → ℕ → Type 0
 Alone l n = (l.first ≡ 0) × (l.end ≡ min n place_limit)
 
-abbrev pub Ghosts : {H : Type 0} → Ledger → List (Place H) → Type 0
-Ghosts l t = record {
+abbrev pub Ghosts : {H : Type 0} → hull.Ghosts H → Ledger → List (Place H) → Type 0
+Ghosts kind l t = record {
   placed : Placed l (length t);
   counted : Counted l;
   kept : Kept l (items_of t);
   paged : Drafted l (items_of t) (heights_of t) (tieds_of t);
   alone : Alone l (length t);
+  grown : GrownOver kind.begun kind.grown l (items_of t) (hulls_of t);
 }
 
-pub spread : {H : Type 0} (l : Ledger) (t : List (Place H)) → Sound l (length t) (items_of t) (heights_of t) (tieds_of t) → Alone l (length t) → Ghosts l t
-spread l t s a = record { placed = s.placed; counted = s.counted; kept = s.kept; paged = s.paged; alone = a }
+pub spread : {H : Type 0} (kind : hull.Ghosts H) (l : Ledger) (t : List (Place H)) → Sound l (length t) (items_of t) (heights_of t) (tieds_of t) → Alone l (length t) → GrownOver kind.begun kind.grown l (items_of t) (hulls_of t) → Ghosts kind l t
+spread kind l t s a g = record { placed = s.placed; counted = s.counted; kept = s.kept; paged = s.paged; alone = a; grown = g }
 
-module _ {H : Type 0} (r : Register H) where
+module _ {H : Type 0} {kind : hull.Ghosts H} (r : Register H kind) where
   abbrev pub table_of : List (Place H)
   table_of = r.table.now
 

@@ -1,7 +1,7 @@
 -- The closed objects of a register: their places, items and hulls.
 use Rattle.std.proofs.Common.{◌≡◌, ℕ, ◌<◌, ◌≤◌, true, false, ◌&&◌, ltb, [], length, get_or, ℤ, pos, negsuc, nat_abs, sym, refl, ap, ◌∙◌, subst, arith}
 use Rattle.std.proofs.lemmas.Bool.{lt-ltb, le-ltb, ltb-true, false≢true}
-use Rattle.hull.specs.declared.corner.Corner.{Corner}
+use Rattle.hull.specs.declared.kind.Hull as hull
 use Rattle.book.specs.declared.ledger.Span.{Span}
 use Rattle.book.specs.Limits.{place_limit}
 use Rattle.book.specs.Books.{closed, object, counts}
@@ -13,11 +13,11 @@ use Rattle.book.proofs.LedgerLaws.{count_objects}
 use Rattle.book.proofs.Wholes.{all_complete_at, some_item}
 use Rattle.register.specs.declared.register.Register.{Register}
 use Rattle.register.specs.Tables.{items_of, hulls_of}
-use Rattle.register.specs.Registers.{book_of, Grown}
+use Rattle.register.specs.Registers.{book_of}
 use Rattle.register.specs.Comparing.{places_of}
 use Rattle.register.proofs.Fields.{sound, table_of, items_slice, hulls_slice}
 
-module _ {H : Type 0} (r : Register H) where
+module _ {H : Type 0} {kind : hull.Ghosts H} (r : Register H kind) where
   count : length (book_of r).objects ≡ r.ledger.closed
   unfolding book_of
   count = count_objects _ _ _ _ _ (sound r)
@@ -62,17 +62,17 @@ module _ {H : Type 0} (r : Register H) where
         let d : Span = record { from = 0; to = 0 } in
         omega (arith, ap length (places_at d), length_slice (table_of r) (span_of d).from (span_of d).to (omega (arith, (ends d).1, r.placed)), (ends d).1, r.placed, r.alone.0)
 
-    grown_object : (begun : Corner → H) (grown : H → Corner → H) → Grown begun grown r → GrownPage begun grown (object (book_of r) (pos k)) (hulls_of (places_of r (pos k)))
-    grown_object begun grown g =
+    grown_object : GrownPage kind.begun kind.grown (object (book_of r) (pos k)) (hulls_of (places_of r (pos k)))
+    grown_object =
         let d : Span = record { from = 0; to = 0 } in
-        rw (items_at d, ap hulls_of (places_at d) ∙ hulls_slice (table_of r) (span_of d).from (span_of d).to) (g.object k d l)
+        rw (items_at d, ap hulls_of (places_at d) ∙ hulls_slice (table_of r) (span_of d).from (span_of d).to) (r.grown.object k d l)
 
   -- the same of the object with a given number
   pub record Shelved (n : ℤ) : Type 0 where
     pub whole : complete (object (book_of r) n) ≡ true
     pub object_items : items_of (places_of r n) ≡ object (book_of r) n
     pub few : length (places_of r n) ≤ place_limit
-    pub grown : (begun : Corner → H) (grown : H → Corner → H) → Grown begun grown r → GrownPage begun grown (object (book_of r) n) (hulls_of (places_of r n))
+    pub grown : GrownPage kind.begun kind.grown (object (book_of r) n) (hulls_of (places_of r n))
 
   pub shelved : (n : ℤ) → closed (book_of r) n ≡ true → Shelved n
   unfolding closed

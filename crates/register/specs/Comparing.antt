@@ -1,6 +1,7 @@
 -- What a comparison over a register's table finds.
 use Rattle.std.specs.Prelude.{ℕ, List, [], ℤ, Ok, Err, Result, slice_index_or, unsigned_abs}
 use Rattle.hull.specs.declared.direction.Direction.{Direction}
+use Rattle.hull.specs.declared.kind.Hull as hull
 use Rattle.placement.specs.declared.parts.Placement.{Placement}
 use Rattle.book.specs.declared.call.Answer.{Answer}
 use Rattle.book.specs.declared.call.Answer.TheVariants as answer
@@ -15,7 +16,7 @@ use Rattle.register.specs.declared.register.Register.{Register}
 use Rattle.register.specs.Tables.{items_of, hulls_of}
 
 -- the places of the object with this number
-unfoldable pub places_of : {H : Type 0} → Register H → ℤ → List (Place H)
+unfoldable pub places_of : {H : Type 0} {kind : hull.Ghosts H} → Register H kind → ℤ → List (Place H)
 places_of r n = slice_index_or (objects_over r.ledger.closed r.ledger.spans r.table.now) (unsigned_abs n) []
 
 -- the walk from the last places of two objects, over the stored hulls

@@ -1,6 +1,7 @@
 -- The book of a register, and what its calls answer.
 use Rattle.std.specs.Prelude.{◌≡◌, ℕ, ◌+◌, ◌-◌, ◌<◌, Bool, true, false, List, [], ◌∷◌, ◌++◌, length, ℤ, Some, None, Ok, Err, Result, unsigned_abs}
 use Rattle.hull.specs.declared.corner.Corner.{Corner}
+use Rattle.hull.specs.declared.kind.Hull as hull
 use Rattle.book.specs.declared.item.Item.{Item}
 use Rattle.book.specs.declared.item.Item.TheVariants as item
 use Rattle.book.specs.declared.refusal.Refusal.{Refusal}
@@ -13,7 +14,8 @@ use Rattle.book.specs.Books.{Book, room, stored, tie_height_lem, questions, firs
 use Rattle.book.specs.Pages.{allowed}
 use Rattle.book.specs.Ledgers.{drafted, book_over, repaged}
 use Rattle.book.specs.declared.ledger.Ledger.{Ledger}
-use Rattle.book.specs.Hulls.{GrownOver}
+use Rattle.book.specs.Trees.{trees, tree_of, corners}
+use Rattle.book.specs.Hulls.{GrownFrom, GrownOver}
 use Rattle.register.specs.declared.place.Place.{Place}
 use Rattle.register.specs.declared.draft.Draft.{Draft}
 use Rattle.register.specs.declared.draft.Unclosed.{Unclosed}
@@ -22,11 +24,11 @@ use Rattle.register.specs.declared.register.Register.{Register}
 use Rattle.register.specs.Tables.{items_of, hulls_of, Wrote}
 
 -- the book that the register keeps
-unfoldable pub book_of : {H : Type 0} → Register H → Book
+unfoldable pub book_of : {H : Type 0} {kind : hull.Ghosts H} → Register H kind → Book
 book_of r = book_over r.ledger (items_of r.table.now)
 
 -- every stored hull is the one grown from its item's corner list
-abbrev pub Grown : {H : Type 0} → (Corner → H) → (H → Corner → H) → Register H → Type 0
+abbrev pub Grown : {H : Type 0} {kind : hull.Ghosts H} → (Corner → H) → (H → Corner → H) → Register H kind → Type 0
 Grown begun grown r = GrownOver begun grown r.ledger (items_of r.table.now) (hulls_of r.table.now)
 
 -- what start answers
@@ -71,7 +73,7 @@ BackFromDrop draft (Ok n) = Unit {0}
 BackFromDrop draft (Err e) = e.0 ≡ draft
 
 -- an entered item stands at the first free place, and a refusal writes nothing
-abbrev pub Filled : {H : Type 0} → Register H → Register H → Item → Result ℕ Refusal → Type 0
+abbrev pub Filled : {H : Type 0} {kind : hull.Ghosts H} → Register H kind → Register H kind → Item → Result ℕ Refusal → Type 0
 Filled before after e (Ok n) = Wrote before.table.now after.table.now (stored (book_of before)) e
 Filled before after e (Err why) = after.table.now ≡ before.table.now
 
@@ -80,7 +82,7 @@ abbrev pub tie_of : ℤ → ℤ → Item
 tie_of x y = item.Tie (unsigned_abs x) (unsigned_abs y)
 
 -- an accepted call changes the table so, and a refusal writes nothing
-abbrev pub FilledBy : {H : Type 0} → (Book → List (Place H) → List (Place H) → Type 0) → Register H → Register H → Result ℕ Refusal → Type 0
+abbrev pub FilledBy : {H : Type 0} {kind : hull.Ghosts H} → (Book → List (Place H) → List (Place H) → Type 0) → Register H kind → Register H kind → Result ℕ Refusal → Type 0
 FilledBy Stands before after (Ok n) = Stands (book_of before) before.table.now after.table.now
 FilledBy Stands before after (Err why) = after.table.now ≡ before.table.now
 
@@ -101,11 +103,12 @@ cleared l = repaged l false l.base 0
 abbrev pub with_tie : Ledger → Ledger
 with_tie l = repaged l l.drafting (l.used + 1) (l.loose - 1)
 
--- the place holds a tie of items x and y that may be entered, but for its hull
-pub record Joining {H : Type 0} (r : Register H) (x y : ℕ) (tie : Place H) : Type 0 where
+-- the place holds a tie of items x and y that may be entered, with the hull grown from its corner list
+pub record Joining {H : Type 0} {kind : hull.Ghosts H} (r : Register H kind) (x y : ℕ) (tie : Place H) : Type 0 where
   pub drafting : r.ledger.drafting ≡ true
   pub room : r.ledger.used < r.ledger.end
   pub allowed : allowed (drafted r.ledger (items_of r.table.now)) (item.Tie x y) ≡ true
+  pub hull : GrownFrom kind.begun kind.grown (corners (tree_of (trees (drafted r.ledger (items_of r.table.now))) (item.Tie x y))) tie.hull
   pub item : tie.item ≡ item.Tie x y
   pub height : tie.height ≡ tie_height_lem (drafted r.ledger (items_of r.table.now)) x y
   pub untied : tie.tied ≡ false

@@ -21,7 +21,6 @@ impl<'t, H: Hull> Register<'t, H> {
     // A register with this mark over the table, with no draft and no object.
     pub fn open(mark: u16, table: &'t mut [Place<H>]) -> Register<'t, H>
         ensures book { book_of result ≡ opened mark (length table.old) }
-        ensures grown { Grown H.begun H.grown result }
         ensures table { result.table.now ≡ table.old }
     {
         let end = table.len().min(PLACES);
@@ -68,19 +67,22 @@ impl<'t, H: Hull> Register<'t, H> {
     }
 
     // How many objects are closed. Each is whole: all its items lie under the last one, none is a part of two ties, none is too high.
+    // As of every register, each stored hull is the one grown from its item's corner list.
     pub fn objects(&self) -> u32
         ensures count { result ≡ length (book_of self.now).objects }
+        ensures grown { Grown H.begun H.grown self.now }
         ensures whole { (k : ℕ) → k < result → Whole (slice_index_or (book_of self.now).objects k []) }
     {
         self.ledger.closed as u32
     }
 
     // Opens a draft.
+    //
+    // The clauses table and lent of each call speak of the table before and after it, so no type can hold them.
     pub fn start(&mut self) -> Result<Draft, Refusal>
         ensures said { Said (book_of self.old) Call.Start (started result) (book_of self.new) }
         ensures marked { Marked (book_of self.old).mark result }
         ensures table { self.new.table.now ≡ self.old.table.now }
-        ensures grown { Grown H.begun H.grown self.old → Grown H.begun H.grown self.new }
         ensures lent { self.new.table.ghost_name ≡ self.old.table.ghost_name }
     {
         if self.ledger.drafting {
@@ -103,7 +105,6 @@ impl Draft {
         ensures back { BackFromClose self result }
         ensures whole { (k : ℕ) → k < length (book_of register.new).objects → Whole (slice_index_or (book_of register.new).objects k []) }
         ensures table { register.new.table.now ≡ register.old.table.now }
-        ensures grown { Grown H.begun H.grown register.old → Grown H.begun H.grown register.new }
         ensures lent { register.new.table.ghost_name ≡ register.old.table.ghost_name }
     {
         if !register.holds(&self) {
@@ -131,7 +132,6 @@ impl Draft {
         ensures said { Said (book_of register.old) (Call.Drop self.mark) (removed result) (book_of register.new) }
         ensures back { BackFromDrop self result }
         ensures table { register.new.table.now ≡ register.old.table.now }
-        ensures grown { Grown H.begun H.grown register.old → Grown H.begun H.grown register.new }
         ensures lent { register.new.table.ghost_name ≡ register.old.table.ghost_name }
     {
         if !register.holds(&self) {

@@ -3,7 +3,7 @@ ghost use Rattle.std.specs.Prelude.{◌≡◌, true, false, MatchOption};
 ghost use Rattle.book.specs.Books.{closed, object};
 ghost use Rattle.walks.specs.Comparisons.{Listing};
 ghost use Rattle.walks.specs.Answers.{Answers};
-ghost use Rattle.register.specs.Registers.{book_of, Grown};
+ghost use Rattle.register.specs.Registers.{book_of};
 ghost use Rattle.register.specs.Comparing.{places_of, WalkStored, comparison, compared};
 
 use super::place::Place;
@@ -36,7 +36,7 @@ impl<'t, H: Hull> Register<'t, H> {
         pairs: &mut [(u32, u32)],
     ) -> Result<(usize, u64), Refusal>
         ensures stored { Answers (book_of self.now) (comparison moved standing placement) (WalkStored H.reaches (places_of self.now moved) (places_of self.now standing)) pairs.old pairs.new (compared result) }
-        ensures grown { Grown H.begun H.grown self.now → Answers (book_of self.now) (comparison moved standing placement) (Listing H.begun H.grown H.reaches H.faced H.unrounded (object (book_of self.now) moved) (object (book_of self.now) standing)) pairs.old pairs.new (compared result) }
+        ensures grown { Answers (book_of self.now) (comparison moved standing placement) (Listing H.begun H.grown H.reaches H.faced H.unrounded (object (book_of self.now) moved) (object (book_of self.now) standing)) pairs.old pairs.new (compared result) }
     {
         let left = self.object(moved).ok_or(Refusal::NoSuchObject)?;
         let right = self.object(standing).ok_or(Refusal::NoSuchObject)?;

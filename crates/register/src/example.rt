@@ -1,7 +1,7 @@
 // How a draft is spent.
 ghost use Rattle.book.specs.Facets.{facet_of};
 ghost use Rattle.register.specs.Tables.{FacetStands};
-ghost use Rattle.register.specs.Registers.{book_of, Grown, FilledBy, FiledAlone};
+ghost use Rattle.register.specs.Registers.{book_of, FilledBy, FiledAlone};
 
 use super::draft::{Draft, Unclosed};
 use super::register::Register;
@@ -15,7 +15,6 @@ pub(crate) fn enter_one<H: Hull>(
 ) -> Result<u32, Refusal>
     ensures book { FiledAlone (book_of register.old) numbers result (book_of register.new) }
     ensures table { FilledBy (FacetStands H.begun H.grown (facet_of numbers)) register.old register.new result }
-    ensures grown { Grown H.begun H.grown register.old → Grown H.begun H.grown register.new }
 {
     let draft = register.start()?;
     let (draft, answer) = draft.facet(register, numbers);

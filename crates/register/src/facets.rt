@@ -4,7 +4,7 @@ ghost use Rattle.book.specs.declared.call.Call.{Call};
 ghost use Rattle.book.specs.Facets.{facet_of};
 ghost use Rattle.book.specs.Books.{Said};
 ghost use Rattle.register.specs.Tables.{FacetStands};
-ghost use Rattle.register.specs.Registers.{book_of, Grown, entered, Filled, FilledBy};
+ghost use Rattle.register.specs.Registers.{book_of, entered, Filled, FilledBy};
 
 use super::draft::Draft;
 use super::place::Place;
@@ -30,7 +30,6 @@ impl Draft {
         ensures back { result.0 ≡ self }
         ensures table { Filled register.old register.new (Item.Facet (facet_of numbers)) result.1 }
         ensures place { FilledBy (FacetStands H.begun H.grown (facet_of numbers)) register.old register.new result.1 }
-        ensures grown { Grown H.begun H.grown register.old → Grown H.begun H.grown register.new }
         ensures lent { register.new.table.ghost_name ≡ register.old.table.ghost_name }
     {
         if !register.holds(&self) {

@@ -1,7 +1,7 @@
 // Whole histories of calls.
 ghost use Rattle.std.specs.Prelude.{◌≡◌, ◌≤◌, length};
 ghost use Rattle.book.specs.Books.{Said, opened};
-ghost use Rattle.register.specs.Registers.{book_of, Grown};
+ghost use Rattle.register.specs.Registers.{book_of};
 ghost use Rattle.register.specs.Runs.{Replayed};
 
 use super::draft::{Draft, Unclosed};
@@ -12,8 +12,7 @@ use hull::Hull;
 
 // Makes one call, with a draft of the mark that it names.
 pub(crate) fn make<H: Hull>(register: &mut Register<'_, H>, call: Call) -> Answer
-    ensures said { Said (book_of register.old) call result (book_of register.new) }
-    ensures grown { Grown H.begun H.grown register.old → Grown H.begun H.grown register.new }
+    ensures { Said (book_of register.old) call result (book_of register.new) }
 {
     match call {
         Call::Start => register

@@ -1,6 +1,6 @@
 // Whole histories of requests: the calls that write, and comparisons among them.
 ghost use Rattle.std.specs.Prelude.{◌≡◌, ◌+◌, ◌≤◌, min, length, take, drop};
-ghost use Rattle.register.specs.Registers.{book_of, Grown};
+ghost use Rattle.register.specs.Registers.{book_of};
 ghost use Rattle.register.specs.Comparing.{compared};
 ghost use Rattle.walks.specs.Runs.{Compared, Replayed};
 
@@ -30,7 +30,7 @@ fn compare_at<H: Hull>(
     places: usize,
 ) -> (Answer, usize)
     requires { from ≤ length lists.old }
-    ensures answer { Grown H.begun H.grown register.now → Compared H.begun H.grown H.reaches H.faced H.unrounded (book_of register.now) comparison (take places (drop from lists.old)) (take places (drop from lists.new)) result.0 }
+    ensures answer { Compared H.begun H.grown H.reaches H.faced H.unrounded (book_of register.now) comparison (take places (drop from lists.old)) (take places (drop from lists.new)) result.0 }
     ensures front { take from lists.new ≡ take from lists.old }
     ensures back { drop result.1 lists.new ≡ drop result.1 lists.old }
     ensures next { result.1 ≡ min (from + places) (length lists.old) }

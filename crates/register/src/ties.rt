@@ -7,7 +7,7 @@ ghost use Rattle.book.specs.Books.{joins, tie_height_lem, Said};
 ghost use Rattle.book.specs.Pages.{sane, heights};
 ghost use Rattle.book.specs.Ledgers.{drafted};
 ghost use Rattle.register.specs.Tables.{items_of, heights_of, tieds_of, Joined, FreeParts, TieStands};
-ghost use Rattle.register.specs.Registers.{book_of, Grown, entered, Filled, FilledBy, tie_of, with_tie, Joining};
+ghost use Rattle.register.specs.Registers.{book_of, entered, Filled, FilledBy, tie_of, with_tie, Joining};
 
 use super::draft::Draft;
 use super::place::Place;
@@ -132,7 +132,6 @@ impl Draft {
         ensures back { result.0 ≡ self }
         ensures table { Filled register.old register.new (tie_of x y) result.1 }
         ensures place { FilledBy (TieStands H.grown (unsigned_abs x) (unsigned_abs y)) register.old register.new result.1 }
-        ensures grown { Grown H.begun H.grown register.old → Grown H.begun H.grown register.new }
         ensures lent { register.new.table.ghost_name ≡ register.old.table.ghost_name }
     {
         if !register.holds(&self) {

@@ -7,7 +7,7 @@ pub returns-in_err-draft : goal.returns-in_err-draft
 returns-in_err-draft g c =
     let s = c.in_err-draft.ensures in
     let p = err_from_is_err_and c.from_residual.result c.from_residual.ensures.1 in
-    record { book = rw (p.1, p.2) (not_started _ _ _ _ s.said); table = rw p.1 s.table; grown = s.grown }
+    record { book = rw (p.1, p.2) (not_started _ _ _ _ s.said); table = rw p.1 s.table }
 
 pub returns-in-Ok : goal.returns-in-Ok
 returns-in-Ok g c =
@@ -19,7 +19,6 @@ returns-in-Ok g c =
     record {
       book = rw m k.2;
       table = rw m (table_stands c.args.register.now c.start.new.self c.facet-answer.new.register c.close.new.register s.table d.table g.H.Hull.begun g.H.Hull.grown _ _ f.place _ c.in-Ok.is s.said);
-      grown = λ w. d.grown (f.grown (s.grown w));
     }
 
 pub returns-in-Ok-drop : goal.returns-in-Ok-drop
@@ -30,7 +29,6 @@ returns-in-Ok-drop g c =
     record {
       book = dropped _ _ _ s.said _ _ s.marked f.back _ _ f.said _ c.in-Err.is _ _ d.said;
       table = table_kept c.args.register.now c.start.new.self c.facet-answer.new.register c.drop.new.register s.table d.table g.H.Hull.begun g.H.Hull.grown _ _ f.place _ c.in-Err.is;
-      grown = λ w. d.grown (f.grown (s.grown w));
     }
 
 pub returns-in-Err-drop : goal.returns-in-Err-drop

@@ -19,7 +19,7 @@ loop-i-preserved g c =
     let hc : c.loop-i.i < length c.args.calls.now = omega arith in
     let ha : c.loop-i.i < length c.loop-i.answers = omega arith in
     record {
-      ran = subst₂ (λ (p : List Call) (q : List Answer). Ran (book_of c.open-register.result) p q (book_of c.make.new.register)) (sym (take_more cs i _ hc)) (sym (take_more_set rs i c.make.result ha)) (ran_push c.loop-i.invariant.ran c.make.ensures.said);
+      ran = subst₂ (λ (p : List Call) (q : List Answer). Ran (book_of c.open-register.result) p q (book_of c.make.new.register)) (sym (take_more cs i _ hc)) (sym (take_more_set rs i c.make.result ha)) (ran_push c.loop-i.invariant.ran c.make.ensures);
       kept = drop-set-lt (i + 1) rs i c.make.result (omega arith) ∙ sym (drop-drop 1 i rs) ∙ ap (drop 1) c.loop-i.invariant.kept ∙ drop-drop 1 i c.args.answers.now;
     }
 

@@ -18,9 +18,9 @@ returns g c =
     let fm : SFits w64 c.args.comparison.moved = search rules in
     let fs : SFits w64 c.args.comparison.standing = search rules in
     record {
-      answer = λ h.
+      answer =
           let r = book_of c.args.register.now in
-          let k : Compared g.H.Hull.begun g.H.Hull.grown g.H.Hull.reaches g.H.Hull.faced g.H.Hull.unrounded (book_of c.args.register.now) c.args.comparison (take ((from + many) - from) (drop from xs)) ys (compared c.compare-result.result) = simp to_z-of_z at (c.compare-result.ensures.grown h) in
+          let k : Compared g.H.Hull.begun g.H.Hull.grown g.H.Hull.reaches g.H.Hull.faced g.H.Hull.unrounded (book_of c.args.register.now) c.args.comparison (take ((from + many) - from) (drop from xs)) ys (compared c.compare-result.result) = simp to_z-of_z at (c.compare-result.ensures.grown) in
           rw c.answer_of.ensures (subst₂ (λ (p q : List (ℕ × ℕ)). Compared g.H.Hull.begun g.H.Hull.grown g.H.Hull.reaches g.H.Hull.faced g.H.Hull.unrounded (book_of c.args.register.now) c.args.comparison p q (compared c.compare-result.result)) (lent xs ys from many c.args.places c.requires n l) (returned xs ys from many c.args.places c.requires n l) k);
       front = front xs ys from many c.args.places c.requires n l;
       back = back xs ys from many c.args.places c.requires n l;

@@ -9,7 +9,7 @@ use Rattle.register.proofs.requests.replay_requests.Goals as goal
 use Rattle.register.proofs.requests.replay_requests.Goals.{in-Write, in-Compare}
 
 pub loop-i-init : goal.loop-i-init
-loop-i-init g c = record { running = running_none _ _ _ _ _ _ _ _; grown = c.open-register.ensures.grown; kept = refl }
+loop-i-init g c = record { running = running_none _ _ _ _ _ _ _ _; kept = refl }
 
 pub compare_at-answer-requires : goal.compare_at-answer-requires
 compare_at-answer-requires g c = omega (arith, c.loop-i.invariant.running.from_is)
@@ -25,14 +25,12 @@ loop-i-preserved g c =
     let ha : c.loop-i.i < length c.loop-i.answers = omega arith in
     elim c.match-requests-i.branch [
       | in-Write w ↦ rw (w.answers-is, w.lists-is, w.register-is, w.from-is) (record {
-        running = next_write _ _ _ _ _ _ _ _ c.args.requests.now c.loop-i.answers i hr ha c.loop-i.from c.loop-i.lists _ w.in-Write.call w.make.result w.in-Write.is c.loop-i.invariant.running w.make.ensures.said;
-        grown = w.make.ensures.grown c.loop-i.invariant.grown;
+        running = next_write _ _ _ _ _ _ _ _ c.args.requests.now c.loop-i.answers i hr ha c.loop-i.from c.loop-i.lists _ w.in-Write.call w.make.result w.in-Write.is c.loop-i.invariant.running w.make.ensures;
         kept = kept_set c.args.answers.now c.loop-i.answers i w.make.result c.loop-i.invariant.kept;
       })
       | in-Compare w ↦ rw (w.answers-is, w.lists-is, w.register-is, w.from-is) (record {
         running = next_compare _ _ _ _ _ _ _ _ c.args.requests.now c.loop-i.answers i hr ha c.loop-i.from c.loop-i.lists _ w.in-Compare.comparison w.compare_at-answer.result.0 w.in-Compare.is c.loop-i.invariant.running
-            (record { long = w.compare_at-answer.auto.lists; front = w.compare_at-answer.ensures.front; back = w.compare_at-answer.ensures.back; to_is = w.compare_at-answer.ensures.next }) (w.compare_at-answer.ensures.answer c.loop-i.invariant.grown);
-        grown = c.loop-i.invariant.grown;
+            (record { long = w.compare_at-answer.auto.lists; front = w.compare_at-answer.ensures.front; back = w.compare_at-answer.ensures.back; to_is = w.compare_at-answer.ensures.next }) w.compare_at-answer.ensures.answer;
         kept = kept_set c.args.answers.now c.loop-i.answers i _ c.loop-i.invariant.kept;
       })
     ]

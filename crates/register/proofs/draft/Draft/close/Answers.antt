@@ -8,7 +8,7 @@ use Rattle.book.proofs.LedgerLaws.{here_parts, page_some, count_objects, sound_f
 use Rattle.book.proofs.Growth.{grown_filed}
 use Rattle.register.specs.Registers.{book_of}
 use Rattle.register.proofs.Fields.{spread, sound, length_items}
-use Rattle.register.proofs.Clearing.{book_cleared, grown_clear}
+use Rattle.register.proofs.Clearing.{book_cleared}
 use Rattle.register.proofs.draft.Draft.close.Goals as goal
 
 pub returns-then-not-holds : goal.returns-then-not-holds
@@ -20,7 +20,6 @@ returns-then-not-holds g c =
       back = refl;
       whole = objects_whole _ _ _ _ _ (sound r);
       table = refl;
-      grown = λ w. w;
       lent = refl;
     }
 
@@ -36,7 +35,6 @@ returns-then-register-ne1 g c =
       back = tt;
       whole = objects_whole _ _ _ _ _ (sound after);
       table = c.clear.ensures.table;
-      grown = grown_clear r after c.clear.ensures.ledger c.clear.ensures.table _ _;
       lent = c.clear.ensures.lent;
     }
 
@@ -49,7 +47,8 @@ unfolding book_of
 invariant_of-register g c =
     let r = c.args.register.now in
     let h = sym c.holds.ensures ∙ c.if-not-holds.false in
-    spread _ _ (sound_filed _ _ _ _ _ (sound r) (length_items r.table.now) (here_parts r.ledger _ c.args.self.mark h).0 c.if-register-ne1.false) r.alone
+    let o = (here_parts r.ledger _ c.args.self.mark h).0 in
+    spread g.H.Hull _ _ (sound_filed _ _ _ _ _ (sound r) (length_items r.table.now) o c.if-register-ne1.false) r.alone (grown_filed _ _ r.ledger _ _ r.grown r.counted.1 (r.counted.2 o))
 
 pub returns : goal.returns
 unfolding book_of book_over
@@ -65,6 +64,5 @@ returns g c =
       back = tt;
       whole = objects_whole _ _ _ _ _ (sound_filed _ _ _ _ _ (sound r) n o c.if-register-ne1.false);
       table = refl;
-      grown = λ w. grown_filed _ _ r.ledger _ _ w r.counted.1 (r.counted.2 o);
       lent = refl;
     }

@@ -5,12 +5,12 @@ use Rattle.book.proofs.Answering.{goes, other_draft, drop_yes}
 use Rattle.book.proofs.LedgerLaws.{here_parts, written_length}
 use Rattle.register.specs.Registers.{book_of}
 use Rattle.register.proofs.Fields.{sound, length_items}
-use Rattle.register.proofs.Clearing.{book_cleared, grown_clear}
+use Rattle.register.proofs.Clearing.{book_cleared}
 use Rattle.register.proofs.draft.Draft.drop.Goals as goal
 
 pub returns-then-not-holds : goal.returns-then-not-holds
 returns-then-not-holds g c =
-    record { said = other_draft (book_of c.args.register.now) _ _ c.args.self.mark refl (sym c.holds.ensures ∙ c.if-not-holds.true); back = refl; table = refl; grown = λ h. h; lent = refl }
+    record { said = other_draft (book_of c.args.register.now) _ _ c.args.self.mark refl (sym c.holds.ensures ∙ c.if-not-holds.true); back = refl; table = refl; lent = refl }
 
 pub returns : goal.returns
 unfolding book_of book_over
@@ -22,6 +22,5 @@ returns g c =
       said = goes (book_of r) _ _ _ (drop_yes (book_of r) m h) (ap answer.Removed (sym (written_length _ _ _ _ _ (sound r) (length_items r.table.now) (here_parts r.ledger _ m h).0))) (book_cleared r c.clear.new.self c.clear.ensures.ledger c.clear.ensures.table);
       back = tt;
       table = c.clear.ensures.table;
-      grown = grown_clear r c.clear.new.self c.clear.ensures.ledger c.clear.ensures.table _ _;
       lent = c.clear.ensures.lent;
     }

@@ -10,14 +10,14 @@ use Rattle.book.proofs.LedgerLaws.{here_parts, few_loose, written_length}
 use Rattle.register.specs.Tables.{Wrote}
 use Rattle.register.specs.Registers.{book_of}
 use Rattle.register.proofs.Fields.{sound, stored_place, length_items}
-use Rattle.register.proofs.Entering.{ghosts_facet, wrote_set, book_facet, grown_facet}
+use Rattle.register.proofs.Entering.{ghosts_facet, wrote_set, book_facet}
 use Rattle.register.proofs.draft.Draft.facet.Goals as goal
 
 pub returns-then-not-holds : goal.returns-then-not-holds
-returns-then-not-holds g c = record { said = other_draft (book_of c.args.register.now) _ _ c.args.self.mark refl (sym c.holds.ensures ∙ c.if-not-holds.true); back = refl; table = refl; place = refl; grown = λ w. w; lent = refl }
+returns-then-not-holds g c = record { said = other_draft (book_of c.args.register.now) _ _ c.args.self.mark refl (sym c.holds.ensures ∙ c.if-not-holds.true); back = refl; table = refl; place = refl; lent = refl }
 
 pub returns-in_default : goal.returns-in_default
-returns-in_default g c = record { said = facet_4 (book_of c.args.register.now) c.args.self.mark (sym c.holds.ensures ∙ c.if-not-holds.false) c.args.numbers c.in_default.ensures; back = refl; table = refl; place = refl; grown = λ w. w; lent = refl }
+returns-in_default g c = record { said = facet_4 (book_of c.args.register.now) c.args.self.mark (sym c.holds.ensures ∙ c.if-not-holds.false) c.args.numbers c.in_default.ensures; back = refl; table = refl; place = refl; lent = refl }
 
 pub returns-then-not-has_room : goal.returns-then-not-has_room
 returns-then-not-has_room g c = record {
@@ -25,7 +25,6 @@ returns-then-not-has_room g c = record {
   back = refl;
   table = refl;
   place = refl;
-  grown = λ w. w;
   lent = refl;
 }
 
@@ -52,7 +51,7 @@ pub invariant_of-register : goal.invariant_of-register
 unfolding book_of
 invariant_of-register g c =
     let r = c.args.register.now in
-    ghosts_facet r (here_parts r.ledger _ c.args.self.mark (sym c.holds.ensures ∙ c.if-not-holds.false)).0 (ltb-true _ _ (sym c.has_room.ensures.below ∙ c.if-not-has_room.false)) c.in-Some.facet _ refl refl refl
+    ghosts_facet r (here_parts r.ledger _ c.args.self.mark (sym c.holds.ensures ∙ c.if-not-holds.false)).0 (ltb-true _ _ (sym c.has_room.ensures.below ∙ c.if-not-has_room.false)) c.in-Some.facet _ refl refl refl c.facet_hull.ensures
 
 pub returns : goal.returns
 unfolding book_of
@@ -71,6 +70,5 @@ returns g c =
       back = refl;
       table = subst (λ (k : ℕ). Wrote r.table.now (set r.table.now r.ledger.used placed) k (item.Facet (facet_of c.args.numbers))) (sym (stored_place r)) (wrote_set r.table.now r.ledger.used placed _ (ap item.Facet is) _ refl);
       place = cc (is, c.facet_hull.ensures, stored_place r);
-      grown = grown_facet r o lt c.in-Some.facet _ refl _ _ c.facet_hull.ensures;
       lent = refl;
     }

@@ -10,11 +10,11 @@ use Rattle.book.specs.declared.item.Item.{Item}
 use Rattle.register.specs.Tables.{items_of, FreeParts, Wrote}
 use Rattle.register.specs.Registers.{book_of}
 use Rattle.register.proofs.Fields.{sound, stored_place, length_items}
-use Rattle.register.proofs.Entering.{page_items, page_heights, page_tieds, page_sane, page_count, page_small, i_in, k_in, i_small, k_small, too_high, table_full, accepted, may_join, hull_grown, wrote_joined, tie_stands, book_after, grown_after}
+use Rattle.register.proofs.Entering.{page_items, page_heights, page_tieds, page_sane, page_count, page_small, i_in, k_in, i_small, k_small, too_high, table_full, accepted, may_join, hull_grown, wrote_joined, tie_stands, book_after}
 use Rattle.register.proofs.draft.Draft.tie.Goals as goal
 
 pub returns-then-not-holds : goal.returns-then-not-holds
-returns-then-not-holds g c = record { said = other_draft (book_of c.args.register.now) _ _ c.args.self.mark refl (sym c.holds.ensures ∙ c.if-not-holds.true); back = refl; table = refl; place = refl; grown = λ w. w; lent = refl }
+returns-then-not-holds g c = record { said = other_draft (book_of c.args.register.now) _ _ c.args.self.mark refl (sym c.holds.ensures ∙ c.if-not-holds.true); back = refl; table = refl; place = refl; lent = refl }
 
 pub free_parts-requires : goal.free_parts-requires
 free_parts-requires g c = page_tieds c.args.register.now _ c.page-page.ensures
@@ -36,7 +36,6 @@ returns-in_default g c =
       back = refl;
       table = refl;
       place = refl;
-      grown = λ w. w;
       lent = refl;
     }
 
@@ -55,7 +54,6 @@ returns-then-height-gt-HEIGHT g c =
       back = refl;
       table = refl;
       place = refl;
-      grown = λ w. w;
       lent = refl;
     }
 
@@ -67,7 +65,6 @@ returns-then-not-has_room g c =
       back = refl;
       table = refl;
       place = refl;
-      grown = λ w. w;
       lent = refl;
     }
 
@@ -96,8 +93,11 @@ unfolding book_of
 join-requires g c =
     let r = c.args.register.now in
     let h = sym c.holds.ensures ∙ c.if-not-holds.false in
-    may_join r _ c.page-page.ensures _ _ _ _ c.in-Some.ensures _ c.tie_height-height.ensures _ (here_parts r.ledger _ c.args.self.mark h).0
+    let e = c.page-page.ensures in
+    let f = c.in-Some.ensures in
+    may_join r _ e _ _ _ _ f _ c.tie_height-height.ensures _ (here_parts r.ledger _ c.args.self.mark h).0
     (ltb-true _ _ (sym c.has_room.ensures.below ∙ c.if-not-has_room.false)) c.if-height-gt-HEIGHT.false refl refl refl
+    (hull_grown r _ e _ _ c.index-page-left.result (i_in r _ e _ _ _ _ f) c.index-page-left.is _ c.over_item.ensures)
 
 pub overflow_cast-result : goal.overflow_cast-result
 overflow_cast-result g c = let n = page_small c.args.register.now _ c.page-page.ensures in search rules
@@ -116,7 +116,7 @@ returns g c =
     let low = c.if-height-gt-HEIGHT.false in
     let k = c.tie_height-height.ensures in
     let tie : _ = record { item = item.Tie a b; height = c.tie_height-height.result; tied = false; hull = c.over_item.result } in
-    let j = may_join r _ e _ _ a b f _ k tie o (ltb-true _ _ (sym c.has_room.ensures.below ∙ c.if-not-has_room.false)) low refl refl refl in
+    let j = may_join r _ e _ _ a b f _ k tie o (ltb-true _ _ (sym c.has_room.ensures.below ∙ c.if-not-has_room.false)) low refl refl refl (hull_grown r _ e a b c.index-page-left.result (i_in r _ e _ _ _ _ f) c.index-page-left.is _ c.over_item.ensures) in
     let t = c.join.new.self.table.now in
     let w = c.join.ensures.table in
     let is : item.Tie a b ≡ item.Tie (nat_abs c.args.x) (nat_abs c.args.y) = sym (ap (λ (z : ℤ). item.Tie (nat_abs z) (nat_abs c.args.y)) f.x_is ∙ ap (λ (z : ℤ). item.Tie a (nat_abs z)) f.y_is) in
@@ -126,7 +126,6 @@ returns g c =
           (book_after r a b tie j t w _ c.join.ensures.ledger ∙ ap (added (book_of r)) is);
       back = refl;
       table = subst₂ (λ (k : ℕ) (e : Item). Wrote r.table.now t k e) (sym (stored_place r)) is (wrote_joined r.table.now r.ledger.used tie _ refl t _ _ w);
-      place = tie_stands r _ e _ a b c.index-page-left.result (i_in r _ e _ _ _ _ f) c.index-page-left.is _ c.over_item.ensures _ _ f _ k tie refl j t w;
-      grown = λ v. grown_after r a b tie j t w _ c.join.ensures.ledger _ _ (hull_grown r _ e _ a b c.index-page-left.result (i_in r _ e _ _ _ _ f) c.index-page-left.is _ c.over_item.ensures _ v.page) v;
+      place = tie_stands r _ e a b c.index-page-left.result (i_in r _ e _ _ _ _ f) c.index-page-left.is _ c.over_item.ensures _ _ f _ k tie refl j t w;
       lent = c.join.ensures.lent;
     }

@@ -2,7 +2,7 @@ use Rattle.std.proofs.Common.{refl, rules}
 use borrow.Author.Rules.{scaled_Fits}
 use Rattle.std.proofs.lemmas.List.{length-set}
 use Rattle.register.proofs.Fields.{spread}
-use Rattle.register.proofs.Entering.{off, x_place, y_place, at_place, some_loose, items_off, length_off, ghosts_off, joined3, ghosts3}
+use Rattle.register.proofs.Entering.{off, x_place, y_place, at_place, some_loose, grown_off, items_off, hulls_off, length_off, ghosts_off, joined3, ghosts3}
 use Rattle.register.proofs.register.Register.join.Goals as goal
 
 pub overflow_sub-loose : goal.overflow_sub-loose
@@ -21,7 +21,7 @@ pub bounds-self-j : goal.bounds-self-j
 bounds-self-j g c = y_place _ _ _ _ c.requires
 
 pub invariant_of-self : goal.invariant_of-self
-invariant_of-self g c = let r = c.args.self.now in spread _ _ (off r r.table.now refl refl) r.alone
+invariant_of-self g c = let r = c.args.self.now in spread g.H.Hull _ _ (off r r.table.now refl refl) r.alone (grown_off r r.table.now refl refl)
 
 pub offset_bounds-self-i-2 : goal.offset_bounds-self-i-2
 offset_bounds-self-i-2 g c = scaled_Fits _ _ _ (x_place _ _ _ _ c.requires) (search rules)
@@ -30,7 +30,7 @@ pub bounds-self-i-2 : goal.bounds-self-i-2
 bounds-self-i-2 g c = x_place _ _ _ _ c.requires
 
 pub invariant_of-self-2 : goal.invariant_of-self-2
-invariant_of-self-2 g c = let r = c.args.self.now in ghosts_off r r.table.now refl refl _ c.index-self-i.result _ (x_place _ _ _ _ c.requires) refl
+invariant_of-self-2 g c = let r = c.args.self.now in ghosts_off r r.table.now refl refl refl _ c.index-self-i.result _ (x_place _ _ _ _ c.requires) refl refl
 
 pub offset_bounds-self-j-2 : goal.offset_bounds-self-j-2
 offset_bounds-self-j-2 g c = scaled_Fits _ _ _ (y_place _ _ _ _ c.requires) (search rules)
@@ -42,7 +42,8 @@ pub invariant_of-self-3 : goal.invariant_of-self-3
 invariant_of-self-3 g c =
     let r = c.args.self.now in
     let h = x_place _ _ _ _ c.requires in
-    ghosts_off r _ (length_off r _ refl refl _ c.index-self-i.result _ h refl) (items_off r _ refl refl _ c.index-self-i.result _ h refl) _ c.index-self-j.result _ (y_place _ _ _ _ c.requires) refl
+    let d = c.index-self-i.result in
+    ghosts_off r _ (length_off r _ refl refl refl _ d _ h refl refl) (items_off r _ refl refl refl _ d _ h refl refl) (hulls_off r _ refl refl refl _ d _ h refl refl) _ c.index-self-j.result _ (y_place _ _ _ _ c.requires) refl refl
 
 pub offset_bounds-self-at : goal.offset_bounds-self-at
 offset_bounds-self-at g c = scaled_Fits _ _ _ (at_place _ _ _ _ c.requires) (search rules)

@@ -1,5 +1,6 @@
 use Rattle.std.proofs.Common.{◌≡◌, ℕ, ◌<◌, ◌≤◌, length, get_or, pos, sym, ap, ◌∙◌, arith, w64, SFits, rules}
 use Rattle.std.proofs.lemmas.Int.{to_z-of_z}
+use Rattle.hull.specs.declared.kind.Hull as hull
 use Rattle.book.specs.declared.ledger.Span.{Span}
 use Rattle.book.specs.Ledgers.{slice}
 use Rattle.register.specs.declared.register.Register.{Register}
@@ -11,7 +12,7 @@ no_span : Span
 no_span = record { from = 0; to = 0 }
 
 -- the span lies within the table
-within : {H : Type 0} (r : Register H) (k : ℕ) → k < r.ledger.closed → (d : Span) → ((get_or r.ledger.spans k d).from ≤ (get_or r.ledger.spans k d).to) × ((get_or r.ledger.spans k d).to ≤ length r.table.now)
+within : {H : Type 0} {kind : hull.Ghosts H} (r : Register H kind) (k : ℕ) → k < r.ledger.closed → (d : Span) → ((get_or r.ledger.spans k d).from ≤ (get_or r.ledger.spans k d).to) × ((get_or r.ledger.spans k d).to ≤ length r.table.now)
 within r k l d = let e = ends r k l d in (e.0, omega (arith, e.1, r.placed))
 
 pub returns-in_err-k : goal.returns-in_err-k

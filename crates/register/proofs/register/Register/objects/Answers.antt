@@ -8,4 +8,4 @@ pub returns : goal.returns
 unfolding book_of
 returns g c =
     let n = count_objects _ _ _ _ _ (sound c.args.self.now) in
-    record { count = sym n; whole = λ k h. objects_whole _ _ _ _ _ (sound c.args.self.now) k (omega (arith, n, h)) }
+    record { count = sym n; grown = c.args.self.now.grown; whole = λ k h. objects_whole _ _ _ _ _ (sound c.args.self.now) k (omega (arith, n, h)) }

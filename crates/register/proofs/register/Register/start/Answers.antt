@@ -3,7 +3,6 @@ use Rattle.book.specs.Ledgers.{book_over}
 use Rattle.book.specs.declared.refusal.Refusal.TheVariants.{DraftOpen, ObjectsFull}
 use Rattle.book.proofs.Answering.{goes, stays, start_yes, start_1, start_2}
 use Rattle.book.proofs.LedgerLaws.{page_some, page_none, count_objects, book_started}
-use Rattle.book.proofs.Growth.{grown_started}
 use Rattle.register.specs.Registers.{book_of}
 use Rattle.register.proofs.Fields.{sound}
 use Rattle.register.proofs.register.Register.start.Goals as goal
@@ -12,7 +11,7 @@ pub returns-then-self : goal.returns-then-self
 unfolding book_of
 returns-then-self g c =
     let b = book_of c.args.self.now in
-    record { said = stays b _ DraftOpen refl (start_1 b (ap is_some (page_some _ _ c.if-self.true))); marked = tt; table = refl; grown = λ h. h; lent = refl }
+    record { said = stays b _ DraftOpen refl (start_1 b (ap is_some (page_some _ _ c.if-self.true))); marked = tt; table = refl; lent = refl }
 
 pub returns-then-self-ge-OBJECTS : goal.returns-then-self-ge-OBJECTS
 unfolding book_of
@@ -23,7 +22,6 @@ returns-then-self-ge-OBJECTS g c =
       said = stays b _ ObjectsFull refl (start_2 b (ap is_some (page_none _ _ c.if-self.false)) (omega (arith, count_objects _ _ _ _ _ (sound r), c.if-self-ge-OBJECTS.true)));
       marked = tt;
       table = refl;
-      grown = λ h. h;
       lent = refl;
     }
 
@@ -36,6 +34,5 @@ returns g c =
       said = goes b _ _ _ (start_yes b (ap is_some (page_none r.ledger _ c.if-self.false)) (omega (arith, count_objects _ _ _ _ _ (sound r), c.if-self-ge-OBJECTS.false))) refl (book_started _ _ _ _ _ (sound r) c.if-self.false);
       marked = refl;
       table = refl;
-      grown = λ h. grown_started _ _ r.ledger _ _ h _;
       lent = refl;
     }
