@@ -1,4 +1,4 @@
-// The replay of a history at each kind of hull.
+// The replay of a history at each kind of hull: the one replay of `register`, with the kind's own rules in the contract.
 #![tactic(auto)]
 
 ghost use Rattle.std.specs.Prelude.{pos, length};
@@ -22,7 +22,7 @@ pub fn replay_box(
 )
     ensures { Replayed box_begun box_grown box_reach (Unit {0}) box_unrounded mark (length table.old) requests.now answers.old answers.new places lists.old lists.new }
 {
-    replay_requests::<BoxHull>(mark, table, requests, answers, places, lists);
+    replay_requests::<BoxHull, _>(mark, table, requests, answers, places, lists);
 }
 
 // Over 26-faced hulls. Their unrounded reach is the sum of weight × d over three of the 26 faces.
@@ -36,7 +36,7 @@ pub fn replay_many(
 )
     ensures { Replayed many_begun many_grown many_reach (Unit {0}) many_unrounded mark (length table.old) requests.now answers.old answers.new places lists.old lists.new }
 {
-    replay_requests::<ManyHull>(mark, table, requests, answers, places, lists);
+    replay_requests::<ManyHull, _>(mark, table, requests, answers, places, lists);
 }
 
 // Over balls, which have no unrounded reach.
@@ -50,5 +50,5 @@ pub fn replay_ball(
 )
     ensures { Replayed ball_begun ball_grown ball_reach_lem ⊥ (λ _ _. pos 0) mark (length table.old) requests.now answers.old answers.new places lists.old lists.new }
 {
-    replay_requests::<BallHull>(mark, table, requests, answers, places, lists);
+    replay_requests::<BallHull, _>(mark, table, requests, answers, places, lists);
 }

@@ -7,6 +7,7 @@ ghost use Rattle.register.specs.Runs.{Replayed};
 use super::draft::{Draft, Unclosed};
 use super::place::Place;
 use super::register::Register;
+use super::requests::replay_requests;
 use book::{Answer, Call};
 use hull::Hull;
 
@@ -41,9 +42,6 @@ pub(crate) fn make<H: Hull>(register: &mut Register<'_, H>, call: Call) -> Answe
 pub fn replay<H: Hull>(mark: u16, table: &mut [Place<H>], calls: &[Call], answers: &mut [Answer])
     ensures ran { Replayed mark (length table.old) calls.now answers.old answers.new }
 {
-    let mut register = Register::open(mark, table);
-    let count = calls.len().min(answers.len());
-    for i in 0..count {
-        answers[i] = make(&mut register, calls[i]);
-    }
+    // No call is a comparison, so no pair is listed.
+    replay_requests(mark, table, calls, answers, 0, &mut []);
 }

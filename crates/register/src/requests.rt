@@ -1,5 +1,5 @@
 // Whole histories of requests: the calls that write, and comparisons among them.
-ghost use Rattle.std.specs.Prelude.{◌≡◌, ◌+◌, ◌≤◌, min, length, take, drop};
+ghost use Rattle.std.specs.Prelude.{◌≡◌, ◌+◌, ◌≤◌, min, map, length, take, drop};
 ghost use Rattle.register.specs.Registers.{book_of};
 ghost use Rattle.register.specs.Comparing.{compared};
 ghost use Rattle.walks.specs.Runs.{Compared, Replayed};
@@ -7,7 +7,7 @@ ghost use Rattle.walks.specs.Runs.{Compared, Replayed};
 use super::history::make;
 use super::place::Place;
 use super::register::Register;
-use book::{Answer, Comparison, Refusal, Request};
+use book::{Answer, Asked, Comparison, Refusal, Request};
 use hull::Hull;
 
 // What a comparison answers.
@@ -45,31 +45,30 @@ fn compare_at<H: Hull>(
     (answer_of(result), to)
 }
 
-// Opens a register over the table and makes the calls in turn, as many as there are places for answers. Comparison k lists its pairs in
+// Opens a register over the table and makes what is asked in turn, as much as there are places for answers. Comparison k lists its pairs in
 // the k-th stretch of so many places.
-pub fn replay_requests<H: Hull>(
+pub fn replay_requests<H: Hull, R: Asked>(
     mark: u16,
     table: &mut [Place<H>],
-    requests: &[Request],
+    requests: &[R],
     answers: &mut [Answer],
     places: usize,
     lists: &mut [(u32, u32)],
 )
-    ensures ran { Replayed H.begun H.grown H.reaches H.faced H.unrounded mark (length table.old) requests.now answers.old answers.new places lists.old lists.new }
+    ensures ran { Replayed H.begun H.grown H.reaches H.faced H.unrounded mark (length table.old) (map R.asked requests.now) answers.old answers.new places lists.old lists.new }
 {
     let mut register = Register::open(mark, table);
     let count = requests.len().min(answers.len());
     let mut from = 0;
-    for i in 0..count {
-        match requests[i] {
-            Request::Write(call) => {
-                answers[i] = make(&mut register, call);
-            }
+    for (i, asked) in requests[..count].iter().enumerate() {
+        let answer = match asked.request() {
+            Request::Write(call) => make(&mut register, call),
             Request::Compare(comparison) => {
                 let (answer, next) = compare_at(&register, comparison, lists, from, places);
-                answers[i] = answer;
                 from = next;
+                answer
             }
-        }
+        };
+        answers[i] = answer;
     }
 }
