@@ -8,7 +8,7 @@ use Rattle.book.specs.declared.item.Facet.{Facet}
 use Rattle.book.specs.declared.item.Item.{Item}
 use Rattle.book.specs.declared.item.Item.TheVariants as item
 use Rattle.book.specs.Trees.{trees, tree_of, height, height_at, ties, tied, flags, untied, item_at, Part}
-use Rattle.book.specs.Books.{tie_height_lem}
+use Rattle.book.specs.Books.{height_of_tie}
 use Rattle.book.specs.Pages.{allowed, sane}
 use Rattle.book.specs.Ledgers.{Written}
 use Rattle.book.proofs.Forest.{Joins, tie_allowed, sane_at, sane_push, heights_push}
@@ -171,8 +171,8 @@ module _ (p : List Item) (x y : ℕ) (good : sane p ≡ true) (ok : allowed p (i
       omega (arith, e, count_bound p x y both)
 
   pub written_tie : (loose : ℕ) (hs : List ℕ) (ts : List Bool) → Written (loose + 1) p hs ts
-      → Written loose (p ++ item.Tie x y ∷ []) (hs ++ tie_height_lem p x y ∷ []) (set (set ts x true) y true ++ false ∷ [])
-  unfolding tie_height_lem height_at
+      → Written loose (p ++ item.Tie x y ∷ []) (hs ++ height_of_tie p x y ∷ []) (set (set ts x true) y true ++ false ∷ [])
+  unfolding height_of_tie height_at
   written_tie loose hs ts w = (
     ap (λ q. q ++ height (tree_of (trees p) (item.Tie x y)) ∷ []) w.0 ∙ sym (heights_push p (item.Tie x y)),
     ap (λ q. set (set q x true) y true ++ false ∷ []) w.1 ∙ sym flags_tie,

@@ -8,7 +8,7 @@ use Rattle.book.specs.declared.item.Item.{Item}
 use Rattle.book.specs.declared.item.Item.TheVariants as item
 use Rattle.book.specs.Limits.{height_limit}
 use Rattle.book.specs.Trees.{Tree, leaf, node, height, trees, tree_of, tree, no_tree, height_at, tied, item_at}
-use Rattle.book.specs.Books.{free, joinable, low, tie_height_lem}
+use Rattle.book.specs.Books.{free, joinable, low, height_of_tie}
 use Rattle.book.specs.Pages.{allowed, goes_on, sane, heights}
 
 abbrev read : List Tree → Item → List Tree
@@ -87,9 +87,9 @@ module _ (p : List Item) (x : ℕ) where
   unfolding free
   free_yes h t = and_from _ _ (lt-ltb x (length p) h) (not_from_false _ t)
 
-  pub free_parts_lem : free p x ≡ true → (x < length p) × (tied p x ≡ false)
+  pub free_is : free p x ≡ true → (x < length p) × (tied p x ≡ false)
   unfolding free
-  free_parts_lem f = let q = and_parts (ltb x (length p)) (not (tied p x)) f in (ltb-true x _ q.0, not-true _ q.1)
+  free_is f = let q = and_parts (ltb x (length p)) (not (tied p x)) f in (ltb-true x _ q.0, not-true _ q.1)
 
 pub record Joins (p : List Item) (x y : ℕ) : Type 0 where
   pub differ : x ≡ y → ⊥
@@ -108,17 +108,17 @@ module _ (p : List Item) (x y : ℕ) where
   joins_parts h =
       let q = and_parts (not (eqb x y)) (free p x && free p y) h in
       let r = and_parts (free p x) (free p y) q.1 in
-      let s = free_parts_lem p x r.0 in
-      let t = free_parts_lem p y r.1 in
+      let s = free_is p x r.0 in
+      let t = free_is p y r.1 in
       record { differ = eqb-false x y (not-true _ q.0); x_in = s.0; y_in = t.0; x_free = s.1; y_free = t.1 }
 
-  pub tie_allowed : allowed p (item.Tie x y) ≡ true → Joins p x y × (tie_height_lem p x y ≤ height_limit)
+  pub tie_allowed : allowed p (item.Tie x y) ≡ true → Joins p x y × (height_of_tie p x y ≤ height_limit)
   unfolding low
   tie_allowed a = let q = and_parts (joinable p x y) (low p x y) a in (joins_parts q.0, leb-true _ height_limit q.1)
 
 -- an item that may come has a height within the limit
 pub height_allowed : (p : List Item) (e : Item) → allowed p e ≡ true → height (tree_of (trees p) e) ≤ height_limit
-unfolding tie_height_lem height_at
+unfolding height_of_tie height_at
 height_allowed p (item.Facet f) a = zero-le
 height_allowed p (item.Tie x y) a = (tie_allowed p x y a).1
 

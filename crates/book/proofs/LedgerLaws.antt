@@ -10,7 +10,7 @@ use Rattle.book.specs.declared.ledger.Span.{Span}
 use Rattle.book.specs.declared.ledger.Ledger.{Ledger}
 use Rattle.book.specs.Limits.{object_limit, place_limit}
 use Rattle.book.specs.Trees.{trees, flags, untied, Whole}
-use Rattle.book.specs.Books.{Book, written, stored, here, room, turned, added, shelved, tie_height_lem}
+use Rattle.book.specs.Books.{Book, written, stored, here, room, turned, added, shelved, height_of_tie}
 use Rattle.book.specs.Pages.{allowed, goes_on, sane, all_complete, heights}
 use Rattle.book.specs.Ledgers.{slice, drafted, objects, book_over, repaged, Placed, Counted, Kept, Written, Drafted}
 use Rattle.book.proofs.Slices.{slice_push, slice_set, slice_none, length_slice, objects_kept, objects_push, length_objects}
@@ -177,7 +177,7 @@ module _ (l : Ledger) (n : ℕ) (items : List Item) (hs : List ℕ) (ts : List B
           (rw (heights_pushed 0, slice_push ts l.base l.used false s.placed.1 (omega (arith, s.placed))) (written_facet (drafted l items) f s.paged.3 l.loose _ _ s.paged))
 
       pub sound_tie : (x y : ℕ) → allowed (drafted l items) (item.Tie x y) ≡ true
-          → Sound (repaged l l.drafting (l.used + 1) (l.loose - 1)) n (set items l.used (item.Tie x y)) (set hs l.used (tie_height_lem (drafted l items) x y)) (set (set (set ts (l.base + x) true) (l.base + y) true) l.used false)
+          → Sound (repaged l l.drafting (l.used + 1) (l.loose - 1)) n (set items l.used (item.Tie x y)) (set hs l.used (height_of_tie (drafted l items) x y)) (set (set (set ts (l.base + x) true) (l.base + y) true) l.used false)
       sound_tie x y ok =
           let p = drafted l items in
           let j = (tie_allowed p x y ok).0 in
@@ -187,4 +187,4 @@ module _ (l : Ledger) (n : ℕ) (items : List Item) (hs : List ℕ) (ts : List B
           let b : slice l.base l.used zs ≡ set (set (drafted l ts) x true) y true = slice_set (set ts (l.base + x) true) l.base l.used y true (omega (arith, j.y_in)) ∙ ap (λ q. set q y true) (slice_set ts l.base l.used x true (omega (arith, j.x_in))) in
           let c : slice l.base (l.used + 1) (set zs l.used false) ≡ set (set (drafted l ts) x true) y true ++ false ∷ [] = slice_push zs l.base l.used false s.placed.1 (omega (arith, s.placed)) ∙ ap (λ q. q ++ false ∷ []) b in
           let w : Written (l.loose - 1 + 1) p (drafted l hs) (drafted l ts) = (s.paged.0, s.paged.1, omega (arith, s.paged.2, untied_two p x y j), s.paged.3) in
-          pushed (item.Tie x y) o lt (l.loose - 1) _ _ (rw (heights_pushed (tie_height_lem p x y), c) (written_tie p x y s.paged.3 ok (l.loose - 1) _ _ w))
+          pushed (item.Tie x y) o lt (l.loose - 1) _ _ (rw (heights_pushed (height_of_tie p x y), c) (written_tie p x y s.paged.3 ok (l.loose - 1) _ _ w))

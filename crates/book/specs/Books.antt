@@ -60,12 +60,12 @@ unfoldable pub joins : List Item → ℤ → ℤ → Bool
 joins p x y = counts x && (counts y && joinable p (unsigned_abs x) (unsigned_abs y))
 
 -- the height of a tie of x and y
-unfoldable pub tie_height_lem : List Item → ℕ → ℕ → ℕ
-tie_height_lem p x y = 1 + max (height_at p x) (height_at p y)
+unfoldable pub height_of_tie : List Item → ℕ → ℕ → ℕ
+height_of_tie p x y = 1 + max (height_at p x) (height_at p y)
 
 -- is the new height within the limit?
 unfoldable pub low : List Item → ℕ → ℕ → Bool
-low p x y = nat_le (tie_height_lem p x y) height_limit
+low p x y = nat_le (height_of_tie p x y) height_limit
 
 -- is this the number of a closed object?
 unfoldable pub closed : Book → ℤ → Bool

@@ -39,12 +39,12 @@ unfoldable pub corner : ℤ → ℤ → ℤ → Corner
 corner x y z = record { x = entry x; y = entry y; z = entry z; x_in = entry_fits x; y_in = entry_fits y; z_in = entry_fits z }
 
 -- the corner whose entries stand at a place and after it
-unfoldable pub corner_at_lem : List ℤ → ℕ → Corner
-corner_at_lem n k = corner (nth n k) (nth n (k + 1)) (nth n (k + 2))
+unfoldable pub corner_from : List ℤ → ℕ → Corner
+corner_from n k = corner (nth n k) (nth n (k + 1)) (nth n (k + 2))
 
 -- the facet of nine numbers, three for each corner
 unfoldable pub facet_of : List ℤ → Facet
-facet_of n = record { a = corner_at_lem n 0; b = corner_at_lem n 3; c = corner_at_lem n 6 }
+facet_of n = record { a = corner_from n 0; b = corner_from n 3; c = corner_from n 6 }
 
 -- its corners, in order
 abbrev pub corners_of : Facet → List Corner

@@ -1,6 +1,6 @@
 // Facets and the items of a draft.
 ghost use Rattle.std.specs.Prelude.{◌≡◌, ◌≤◌, true, false, MatchOption};
-ghost use Rattle.book.specs.Facets.{fits_at, corner_at_lem, within, facet_of};
+ghost use Rattle.book.specs.Facets.{fits_at, corner_from, within, facet_of};
 
 use hull::Corner;
 
@@ -22,7 +22,7 @@ pub enum Item {
 // The corner of three numbers that stand one after another, where they are in range.
 fn corner_at(numbers: &[i64; 9], at: usize) -> Option<Corner>
     requires { at ≤ 6 }
-    ensures { MatchOption result (fits_at numbers.now at ≡ false) (λ p. (fits_at numbers.now at ≡ true) × (p ≡ corner_at_lem numbers.now at)) }
+    ensures { MatchOption result (fits_at numbers.now at ≡ false) (λ p. (fits_at numbers.now at ≡ true) × (p ≡ corner_from numbers.now at)) }
 {
     Corner::new(numbers[at], numbers[at + 1], numbers[at + 2])
 }

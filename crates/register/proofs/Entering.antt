@@ -13,7 +13,7 @@ use Rattle.book.specs.declared.refusal.Refusal.TheVariants.{TooHigh, TableFull}
 use Rattle.book.specs.Limits.{height_limit, place_limit}
 use Rattle.book.specs.Facets.{corners_of}
 use Rattle.book.specs.Trees.{tree, trees, tree_of, corners, flags}
-use Rattle.book.specs.Books.{written, stored, here, room, joins, low, tie_height_lem, questions, first_no, added, Said}
+use Rattle.book.specs.Books.{written, stored, here, room, joins, low, height_of_tie, questions, first_no, added, Said}
 use Rattle.book.specs.Pages.{allowed, sane, heights}
 use Rattle.book.specs.Ledgers.{slice, drafted, book_over, repaged}
 use Rattle.book.specs.Hulls.{GrownFrom, GrownOver}
@@ -196,7 +196,7 @@ module _ {H : Type 0} {kind : hull.Ghosts H} (r : Register H kind) (p : List (Pl
     joins_here : joins (drafted r.ledger (items_of (table_of r))) x y ≡ true
     joins_here = subst (λ q. joins q x y ≡ true) page_items (joins_pos (items_of p) i k x y f.x_is f.y_is ∙ f.free)
 
-    module _ (h : ℕ) (is : h ≡ tie_height_lem (items_of p) i k) where
+    module _ (h : ℕ) (is : h ≡ height_of_tie (items_of p) i k) where
       at_numbers : (b : Bool) → low (items_of p) i k ≡ b → low (drafted r.ledger (items_of (table_of r))) (nat_abs x) (nat_abs y) ≡ b
       at_numbers b l = rw (f.x_is, f.y_is) (subst (λ q. low q i k ≡ b) page_items l)
 
@@ -235,7 +235,7 @@ module _ {H : Type 0} {kind : hull.Ghosts H} (r : Register H kind) (p : List (Pl
         room = lt;
         allowed = subst (λ q. allowed q (item.Tie i k) ≡ true) page_items (and_from _ _ f.free (allowed_low l));
         item = ei;
-        height = eh ∙ (is ∙ ap (λ q. tie_height_lem q i k) page_items);
+        height = eh ∙ (is ∙ ap (λ q. height_of_tie q i k) page_items);
         untied = et;
         hull = m;
       }
@@ -266,7 +266,7 @@ module _ {H : Type 0} {kind : hull.Ghosts H} (r : Register H kind) (p : List (Pl
         let m = from_tie kind.begun kind.grown q hs i k hull r.grown.page (omega (arith, ap length page_items, length_items p)) in
         subst (λ a. GrownFrom kind.begun kind.grown (corners (tree_of (trees q) (item.Tie i k))) a) (sym eq) m
 
-    pub tie_stands : (x y : ℤ) → FreeParts (items_of p) x y i k → (n : ℕ) → n ≡ tie_height_lem (items_of p) i k → (tie : Place H) → tie ≡ record { item = item.Tie i k; height = n; tied = false; hull = hull } → Joining r i k tie → (t : List (Place H))
+    pub tie_stands : (x y : ℤ) → FreeParts (items_of p) x y i k → (n : ℕ) → n ≡ height_of_tie (items_of p) i k → (tie : Place H) → tie ≡ record { item = item.Tie i k; height = n; tied = false; hull = hull } → Joining r i k tie → (t : List (Place H))
         → Joined (table_of r) t (r.ledger.base + i) (r.ledger.base + k) r.ledger.used tie → TieStands kind.grown (nat_abs x) (nat_abs y) (book_of r) (table_of r) t
     tie_stands x y f n en tie et j t w d =
         let q = written (book_of r).page in

@@ -10,7 +10,7 @@ use Rattle.book.specs.declared.call.Call.TheVariants as call
 use Rattle.book.specs.declared.call.Answer.{Answer}
 use Rattle.book.specs.declared.call.Answer.TheVariants as answer
 use Rattle.book.specs.Facets.{within, facet_of}
-use Rattle.book.specs.Books.{Book, room, stored, tie_height_lem, questions, first_no, turned, shelved}
+use Rattle.book.specs.Books.{Book, room, stored, height_of_tie, questions, first_no, turned, shelved}
 use Rattle.book.specs.Pages.{allowed}
 use Rattle.book.specs.Ledgers.{drafted, book_over, repaged}
 use Rattle.book.specs.declared.ledger.Ledger.{Ledger}
@@ -110,5 +110,5 @@ pub record Joining {H : Type 0} {kind : hull.Ghosts H} (r : Register H kind) (x 
   pub allowed : allowed (drafted r.ledger (items_of r.table.now)) (item.Tie x y) ≡ true
   pub hull : GrownFrom kind.begun kind.grown (corners (tree_of (trees (drafted r.ledger (items_of r.table.now))) (item.Tie x y))) tie.hull
   pub item : tie.item ≡ item.Tie x y
-  pub height : tie.height ≡ tie_height_lem (drafted r.ledger (items_of r.table.now)) x y
+  pub height : tie.height ≡ height_of_tie (drafted r.ledger (items_of r.table.now)) x y
   pub untied : tie.tied ≡ false

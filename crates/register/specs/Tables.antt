@@ -5,7 +5,7 @@ use Rattle.book.specs.declared.item.Facet.{Facet}
 use Rattle.book.specs.declared.item.Item.{Item}
 use Rattle.book.specs.declared.item.Item.TheVariants as item
 use Rattle.book.specs.Trees.{tree, corners}
-use Rattle.book.specs.Books.{Book, written, stored, joinable, tie_height_lem}
+use Rattle.book.specs.Books.{Book, written, stored, joinable, height_of_tie}
 use Rattle.register.specs.declared.place.Place.{Place}
 
 unfoldable pub items_of : {H : Type 0} → List (Place H) → List Item
@@ -32,7 +32,7 @@ facet_place begun grown f = record { item = item.Facet f; height = 0; tied = fal
 
 -- the place of a tie of items x and y of the page, with the hull of x grown over the corner list of y
 abbrev pub tie_place : {H : Type 0} → (H → Corner → H) → List Item → H → ℕ → ℕ → Place H
-tie_place grown page hull x y = record { item = item.Tie x y; height = tie_height_lem page x y; tied = false; hull = fold grown hull (corners (tree page y)) }
+tie_place grown page hull x y = record { item = item.Tie x y; height = height_of_tie page x y; tied = false; hull = fold grown hull (corners (tree page y)) }
 
 -- two items are tied by a new one: its place is written, theirs are flagged, and every other place keeps what it holds
 pub record Joined {H : Type 0} (before after : List (Place H)) (i j at : ℕ) (p : Place H) : Type 0 where

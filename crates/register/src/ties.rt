@@ -3,7 +3,7 @@ ghost use Rattle.std.specs.Prelude.{◌≡◌, ℕ, ◌+◌, ◌-◌, ◌<◌, �
 ghost use Rattle.book.specs.declared.call.Call.{Call};
 ghost use Rattle.book.specs.Facets.{corners_of};
 ghost use Rattle.book.specs.Trees.{tree, corners, flags};
-ghost use Rattle.book.specs.Books.{joins, tie_height_lem, Said};
+ghost use Rattle.book.specs.Books.{joins, height_of_tie, Said};
 ghost use Rattle.book.specs.Pages.{sane, heights};
 ghost use Rattle.book.specs.Ledgers.{drafted};
 ghost use Rattle.register.specs.Tables.{items_of, heights_of, tieds_of, Joined, FreeParts, TieStands};
@@ -45,7 +45,7 @@ fn free_parts<H: Hull>(page: &[Place<H>], x: i64, y: i64) -> Option<(usize, usiz
 fn tie_height<H: Hull>(page: &[Place<H>], x: usize, y: usize) -> u8
     requires within { (x < length page.now) × (y < length page.now) }
     requires known { (heights_of page.now ≡ heights (items_of page.now)) × (sane (items_of page.now) ≡ true) }
-    ensures { result ≡ tie_height_lem (items_of page.now) x y }
+    ensures { result ≡ height_of_tie (items_of page.now) x y }
 {
     let left = &page[x];
     let right = &page[y];

@@ -20,7 +20,7 @@ use Rattle.book.specs.Facets.{corners_of}
 use Rattle.book.specs.Pages.{sane}
 use Rattle.book.specs.Trees.{Tree, leaf, node, corners, tree, Under, Whole, number}
 use Rattle.walks.specs.Walks.{Walk}
-use Rattle.walks.specs.Comparisons.{IsFacet, triangle, hull_of_lem, PartedItems, Complete, Tight, PartedAbove, Exact}
+use Rattle.walks.specs.Comparisons.{IsFacet, triangle, hull_over, PartedItems, Complete, Tight, PartedAbove, Exact}
 use Rattle.walks.proofs.Inside.{Inside, Separate}
 use Rattle.walks.proofs.Inside as in_tree
 use Rattle.walks.proofs.Listings.{listed_or_parted, listed_facets}
@@ -77,14 +77,14 @@ module _ {H : Type 0} (begun : Corner → H) (grown : H → Corner → H) (reach
   fits_more h c (p ∷ d) f = subst (fits (fold grown (grown h p) d)) (append_assoc c (p ∷ []) d) (fits_more (grown h p) (c ++ p ∷ []) d (another h c p f))
 
   -- an item's hull fits its corner list
-  fits_tree : (t : Tree) → fits (hull_of_lem begun grown reaches t) (corners t)
+  fits_tree : (t : Tree) → fits (hull_over begun grown reaches t) (corners t)
   fits_tree (leaf n f) = another _ _ f.c (another _ _ f.b (one f.a))
-  fits_tree (node n t u) = fits_more (hull_of_lem begun grown reaches t) (corners t) (corners u) (fits_tree t)
+  fits_tree (node n t u) = fits_more (hull_over begun grown reaches t) (corners t) (corners u) (fits_tree t)
 
   module _ (covers : (h : H) (c : List Corner) (u : Direction) → fits h c → Covers (reaches h u) u c) (tight : (h : H) (c : List Corner) (u : Direction) (s : ℕ) → fits h c → Spread s c → measure.Tight (reaches h u) u s c)
       (o q : List Item) (good_o : sane o ≡ true) (good_q : sane q ≡ true) (whole_o : Whole o) (whole_q : Whole q) (p : Placement) {pairs : List (ℕ × ℕ)} {tests : ℕ} (walk : Walk (PartedItems begun grown reaches p) (root o good_o whole_o) (root q good_q whole_q) pairs tests) where
     abbrev hull : Tree → H
-    hull = hull_of_lem begun grown reaches
+    hull = hull_over begun grown reaches
 
     -- the claims of one pair of hulls, at the hulls of two items
     touching : (t u : Tree) → TouchingUnparted p (fits (hull t)) (fits (hull u)) (PartedItems begun grown reaches p t u)

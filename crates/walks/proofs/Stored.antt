@@ -11,7 +11,7 @@ use Rattle.book.specs.Trees.{Tree, leaf, node, number, corners, tree}
 use Rattle.book.specs.Hulls.{GrownFrom, GrownPage}
 use Rattle.book.proofs.Growth.{from_more}
 use Rattle.walks.specs.Walks.{Walk, apart, facets, tie_facet, facet_tie, ties}
-use Rattle.walks.specs.Comparisons.{root, hull_of_lem, PartedItems}
+use Rattle.walks.specs.Comparisons.{root, hull_over, PartedItems}
 use Rattle.walks.specs.Stored.{reaches_at, PartedStored}
 use Rattle.walks.proofs.Inside.{Inside, itself, first, second}
 use Rattle.walks.proofs.Objects.{number_is, inside_found}
@@ -39,9 +39,9 @@ module _ (P Q : Tree → Tree → Type 0) where
 
 module _ {H : Type 0} (begun : Corner → H) (grown : H → Corner → H) (reaches : H → Direction → ℤ) where
   -- an item's hull is the one that grows from its corner list
-  hull_grown : (t : Tree) → GrownFrom begun grown (corners t) (hull_of_lem begun grown reaches t)
+  hull_grown : (t : Tree) → GrownFrom begun grown (corners t) (hull_over begun grown reaches t)
   hull_grown (leaf n f) = refl
-  hull_grown (node n t u) = from_more begun grown (hull_of_lem begun grown reaches t) (corners t) (corners u) (hull_grown t)
+  hull_grown (node n t u) = from_more begun grown (hull_over begun grown reaches t) (corners t) (corners u) (hull_grown t)
 
   one_hull : (c : List Corner) (h k : H) → GrownFrom begun grown c h → GrownFrom begun grown c k → h ≡ k
   one_hull [] h k a b = absurd a
@@ -49,15 +49,15 @@ module _ {H : Type 0} (begun : Corner → H) (grown : H → Corner → H) (reach
 
   -- so the stored hull of each item inside the object's last one is that
   module _ (o : List Item) (good : sane o ≡ true) (some : 0 < length o) (hs : List H) (n : length hs ≡ length o) (g : GrownPage begun grown o hs) where
-    pub stored_reach : (a : Tree) → Inside a (root o) → reaches_at reaches hs (number a) ≡ reaches (hull_of_lem begun grown reaches a)
+    pub stored_reach : (a : Tree) → Inside a (root o) → reaches_at reaches hs (number a) ≡ reaches (hull_over begun grown reaches a)
     unfolding GrownPage
     stored_reach a i =
         let p = inside_found o good (length o) (length o - 1) (omega arith) (omega arith) a i in
-        let d = hull_of_lem begun grown reaches a in
+        let d = hull_over begun grown reaches a in
         let k : number a ≡ p.at = ap number p.is ∙ number_is o good p.at p.there in
         let l : p.at < length hs = omega (arith, p.there) in
-        let e : get_or hs p.at d ≡ hull_of_lem begun grown reaches (tree o p.at) = one_hull (corners (tree o p.at)) _ _ (g p.at d p.there) (hull_grown (tree o p.at)) in
-        ap (reaches_at reaches hs) k ∙ (get_or-map reaches hs p.at d (λ _. pos 0) l ∙ ap reaches (e ∙ ap (hull_of_lem begun grown reaches) (sym p.is)))
+        let e : get_or hs p.at d ≡ hull_over begun grown reaches (tree o p.at) = one_hull (corners (tree o p.at)) _ _ (g p.at d p.there) (hull_grown (tree o p.at)) in
+        ap (reaches_at reaches hs) k ∙ (get_or-map reaches hs p.at d (λ _. pos 0) l ∙ ap reaches (e ∙ ap (hull_over begun grown reaches) (sym p.is)))
 
   module _ (o q : List Item) (good_o : sane o ≡ true) (good_q : sane q ≡ true) (some-o : 0 < length o) (some-q : 0 < length q) (hs ks : List H) (no : length hs ≡ length o) (nq : length ks ≡ length q) (go : GrownPage begun grown o hs) (gq : GrownPage begun grown q ks) (p : Placement) where
     agree : Agree (PartedStored reaches hs ks p) (PartedItems begun grown reaches p) (root o) (root q)

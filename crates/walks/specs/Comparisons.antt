@@ -36,13 +36,13 @@ triangle f = record { v0 = f.a; v1 = f.b; v2 = f.c }
 
 module _ {H : Type 0} (begun : Corner → H) (grown : H → Corner → H) (reaches : H → Direction → ℤ) where
   -- the hull that grows from an item's corner list
-  abbrev pub hull_of_lem : Tree → H
-  hull_of_lem (leaf n f) = grown (grown (begun f.a) f.b) f.c
-  hull_of_lem (node n t u) = fold grown (hull_of_lem t) (corners u)
+  abbrev pub hull_over : Tree → H
+  hull_over (leaf n f) = grown (grown (begun f.a) f.b) f.c
+  hull_over (node n t u) = fold grown (hull_over t) (corners u)
 
   -- some axis of the placement parts the hulls of two items
   abbrev pub PartedItems : Placement → Tree → Tree → Type 0
-  PartedItems p t u = Parted (reaches (hull_of_lem t)) (reaches (hull_of_lem u)) p
+  PartedItems p t u = Parted (reaches (hull_over t)) (reaches (hull_over u)) p
 
 module _ (o q : List Item) (p : Placement) (pairs : List (ℕ × ℕ)) where
   -- no pair that touches is missing

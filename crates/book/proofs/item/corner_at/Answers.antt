@@ -2,7 +2,7 @@ use Rattle.std.proofs.Common.{◌≡◌, ◌+◌, true, false, get_or, ℤ, pos,
 use Rattle.std.proofs.lemmas.Int.{to_z-of_z}
 use Rattle.hull.specs.Units.{corner_limit, Within}
 use Rattle.hull.specs.declared.corner.Corner.{Corner}
-use Rattle.book.specs.Facets.{fits_corner, corner, fits_at, corner_at_lem}
+use Rattle.book.specs.Facets.{fits_corner, corner, fits_at, corner_from}
 use Rattle.book.proofs.Corners.{corner_fits, corner_is, out_of_range}
 use Rattle.book.proofs.item.corner_at.Goals as goal
 
@@ -12,7 +12,7 @@ judged x y z None h = out_of_range x y z h
 judged x y z (Some p) h = (corner_fits p x y z h.0 h.1 h.2, corner_is p x y z h.0 h.1 h.2)
 
 pub returns : goal.returns
-unfolding fits_at corner_at_lem
+unfolding fits_at corner_from
 returns c =
     let n = c.args.numbers.now in
     let k = c.args.at in

@@ -1,6 +1,6 @@
 use Rattle.std.proofs.Common.{arith, rules}
 use Rattle.register.proofs.Reading.{height_read, low_read}
-use Rattle.book.specs.Books.{tie_height_lem}
+use Rattle.book.specs.Books.{height_of_tie}
 use Rattle.register.proofs.ties.tie_height.Goals as goal
 
 pub overflow_add-result : goal.overflow_add-result
@@ -13,7 +13,7 @@ overflow_add-result g c =
     search rules
 
 pub returns : goal.returns
-unfolding tie_height_lem
+unfolding height_of_tie
 returns g c =
     let t = c.args.page.now in
     let x = height_read t c.args.x c.index-page-x.result c.requires.within.0 c.index-page-x.is c.requires.known.0 in
