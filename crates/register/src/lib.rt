@@ -10,7 +10,6 @@ mod history;
 mod place;
 mod register;
 mod requests;
-mod stack;
 mod ties;
 mod walk;
 
