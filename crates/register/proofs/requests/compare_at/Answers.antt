@@ -4,11 +4,11 @@ use Rattle.std.proofs.lemmas.Int.{to_z-of_z}
 use Rattle.walks.specs.Runs.{Compared}
 use Rattle.register.specs.Registers.{book_of}
 use Rattle.register.specs.Comparing.{compared}
-use Rattle.register.proofs.Stretching.{lent, returned, front, back}
+use Rattle.register.proofs.Stretching.{lent, returned, back}
 use Rattle.register.proofs.requests.compare_at.Goals as goal
 
-pub returns : goal.returns
-returns g c =
+pub returns-clause-answer : goal.returns-clause-answer
+returns-clause-answer g c =
     let xs = c.args.lists.now in
     let ys = c.compare-result.new.pairs in
     let from = c.args.from in
@@ -17,12 +17,18 @@ returns g c =
     let l : length c.compare-result.new.pairs ≡ c.min.result = omega (arith, c.compare-result.auto.pairs, length-take ((from + many) - from) (drop from xs), length-drop from xs) in
     let fm : SFits w64 c.args.comparison.moved = search rules in
     let fs : SFits w64 c.args.comparison.standing = search rules in
-    record {
-      answer =
-          let r = book_of c.args.register.now in
-          let k : Compared g.H.Hull.begun g.H.Hull.grown g.H.Hull.reaches g.H.Hull.faced g.H.Hull.unrounded (book_of c.args.register.now) c.args.comparison (take ((from + many) - from) (drop from xs)) ys (compared c.compare-result.result) = simp to_z-of_z at (c.compare-result.ensures.grown) in
-          rw c.answer_of.ensures (subst₂ (λ (p q : List (ℕ × ℕ)). Compared g.H.Hull.begun g.H.Hull.grown g.H.Hull.reaches g.H.Hull.faced g.H.Hull.unrounded (book_of c.args.register.now) c.args.comparison p q (compared c.compare-result.result)) (lent xs ys from many c.args.places c.requires n l) (returned xs ys from many c.args.places c.requires n l) k);
-      front = front xs ys from many c.args.places c.requires n l;
-      back = back xs ys from many c.args.places c.requires n l;
-      next = omega arith;
-    }
+    let r = book_of c.args.register.now in
+    let k : Compared g.H.Hull.begun g.H.Hull.grown g.H.Hull.reaches g.H.Hull.faced g.H.Hull.unrounded (book_of c.args.register.now) c.args.comparison (take ((from + many) - from) (drop from xs)) ys (compared c.compare-result.result) = simp to_z-of_z at (c.compare-result.ensures.grown) in
+    rw c.answer_of.ensures (subst₂ (λ (p q : List (ℕ × ℕ)). Compared g.H.Hull.begun g.H.Hull.grown g.H.Hull.reaches g.H.Hull.faced g.H.Hull.unrounded (book_of c.args.register.now) c.args.comparison p q (compared c.compare-result.result)) (lent xs ys from many c.args.places c.requires n l) (returned xs ys from many c.args.places c.requires n l) k)
+
+pub returns-clause-back : goal.returns-clause-back
+returns-clause-back g c =
+    let xs = c.args.lists.now in
+    let ys = c.compare-result.new.pairs in
+    let from = c.args.from in
+    let many = c.min.result in
+    let n : c.min.result ≡ min c.args.places (length c.args.lists.now - c.args.from) = search rules in
+    let l : length c.compare-result.new.pairs ≡ c.min.result = omega (arith, c.compare-result.auto.pairs, length-take ((from + many) - from) (drop from xs), length-drop from xs) in
+    let fm : SFits w64 c.args.comparison.moved = search rules in
+    let fs : SFits w64 c.args.comparison.standing = search rules in
+    back xs ys from many c.args.places c.requires n l

@@ -11,9 +11,6 @@ use Rattle.register.proofs.requests.replay_requests.Goals.{in-Write, in-Compare}
 pub loop-i-init : goal.loop-i-init
 loop-i-init g c = record { running = running_none _ _ _ _ _ _ _ _; kept = refl }
 
-pub compare_at-answer-requires : goal.compare_at-answer-requires
-compare_at-answer-requires g c = omega (arith, c.loop-i.invariant.running.from_is)
-
 -- the other answers stay
 kept_set : (before answers : List Answer) (i : ℕ) (a : Answer) → drop i answers ≡ drop i before → drop (i + 1) (set answers i a) ≡ drop (i + 1) before
 kept_set before answers i a e = drop-set-lt (i + 1) answers i a (omega arith) ∙ (sym (drop-drop 1 i answers) ∙ (ap (drop 1) e ∙ drop-drop 1 i before))

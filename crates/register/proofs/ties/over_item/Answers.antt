@@ -1,14 +1,10 @@
-use Rattle.std.proofs.Common.{◌≡◌, ◌↔◌, ℕ, ◌<◌, [], ◌∷◌, ◌++◌, length, IsSome, None, ap, ◌∙◌, arith, rules}
+use Rattle.std.proofs.Common.{◌≡◌, ◌<◌, [], ◌∷◌, ◌++◌, length, ap, ◌∙◌, arith, rules}
 use Rattle.book.proofs.Forest.{low_at}
 use Rattle.book.proofs.Pending.{growing_one, growing_none}
 use Rattle.register.specs.Tables.{items_of}
 use Rattle.register.proofs.Fields.{length_items}
 use Rattle.register.proofs.Turns.{inside, facet_turn, facet_less, tie_room, tie_turn, tie_less}
 use Rattle.register.proofs.ties.over_item.Goals as goal
-
--- nothing is left where there is nothing to pop
-none_left : (n : ℕ) → (IsSome {T = ℕ} None ↔ (0 < n)) → n ≡ 0
-none_left n v = grind (arith, v)
 
 pub loop-i-init : goal.loop-i-init
 loop-i-init g c =
@@ -51,4 +47,6 @@ loop-i-preserved g c = tie_turn _ _ _ _ _ _ _ c.in-Some.ensures.items c.loop-i.i
     (c.push-in-Tie-2.ensures.items ∙ ap (λ q. q ++ c.in-Tie.a ∷ []) c.push-in-Tie.ensures.items)
 
 pub returns : goal.returns
-returns g c = growing_none _ _ _ _ _ (none_left _ c.in_default.ensures.variant) c.loop-i.invariant
+returns g c =
+    let none : length c.loop-i.stack.items ≡ 0 = grind (arith, c.in_default.ensures.variant) in
+    growing_none _ _ _ _ _ none c.loop-i.invariant

@@ -1,5 +1,5 @@
-use Rattle.std.proofs.Common.{◌≡◌, ℕ, ◌+◌, ◌-◌, ◌<◌, ◌≤◌, Bool, true, false, not, List, [], ◌∷◌, ◌++◌, length, IsSome, None, ◌↔◌, sym, refl, ap, ◌∙◌, ap₂, arith, rules}
-use Rattle.std.proofs.lemmas.Bool.{false≢true}
+use Rattle.std.proofs.Common.{◌≡◌, ℕ, ◌+◌, ◌-◌, ◌<◌, ◌≤◌, true, List, [], ◌∷◌, ◌++◌, length, sym, ap, ◌∙◌, ap₂, arith, rules}
+use Rattle.std.proofs.lemmas.Bool.{not-true, not-false}
 use Rattle.book.specs.Pages.{complete}
 use Rattle.book.proofs.Wholes.{some_item}
 use Rattle.walks.proofs.State.{Taken, begin, done}
@@ -12,18 +12,6 @@ use Rattle.register.proofs.walk.walk.Goals.{In-Some}
 
 some_item_in : {H : Type 0} (t : List (Place H)) → complete (items_of t) ≡ true → 1 ≤ length t
 some_item_in t c = omega (arith, some_item (items_of t) c, length_items t)
-
-not_true : (b : Bool) → true ≡ not b → b ≡ false
-not_true true e = absurd (false≢true (sym e))
-not_true false e = refl
-
-not_false : (b : Bool) → false ≡ not b → b ≡ true
-not_false true e = refl
-not_false false e = absurd (false≢true e)
-
--- nothing is left where there is nothing to pop
-none_left : (n : ℕ) → (IsSome {T = ℕ × ℕ} None ↔ (0 < n)) → n ≡ 0
-none_left n v = grind (arith, v)
 
 -- the pair that is popped
 abbrev pair : (g : _) (c : In-Some g) → Taken (walked_of g.H.Hull.reaches c.args.moved.now c.args.standing.now c.args.axes.now.placement)
@@ -72,21 +60,23 @@ push_parts-requires g c n =
     omega (arith, r)
 
 pub loop-i-smaller-then-push_parts : goal.loop-i-smaller-then-push_parts
-loop-i-smaller-then-push_parts g c = (parts_goes _ _ _ _ (pair g (goal.at.loop-i-smaller-then-push_parts g c).In-Some) c.index-moved-i.result c.index-standing-j.result c.index-moved-i.is c.index-standing-j.is c.if-parted.ensures.missed (not_true _ c.if-push_parts.ensures.parts) _ c.if-push_parts.ensures.held).less
+loop-i-smaller-then-push_parts g c = (parts_goes _ _ _ _ (pair g (goal.at.loop-i-smaller-then-push_parts g c).In-Some) c.index-moved-i.result c.index-standing-j.result c.index-moved-i.is c.index-standing-j.is c.if-parted.ensures.missed (not-true _ (sym c.if-push_parts.ensures.parts)) _ c.if-push_parts.ensures.held).less
 
 pub loop-i-preserved-then-push_parts : goal.loop-i-preserved-then-push_parts
 loop-i-preserved-then-push_parts g c =
-    (parts_goes _ _ _ _ (pair g (goal.at.loop-i-preserved-then-push_parts g c).In-Some) c.index-moved-i.result c.index-standing-j.result c.index-moved-i.is c.index-standing-j.is c.if-parted.ensures.missed (not_true _ c.if-push_parts.ensures.parts) _ c.if-push_parts.ensures.held).state
+    (parts_goes _ _ _ _ (pair g (goal.at.loop-i-preserved-then-push_parts g c).In-Some) c.index-moved-i.result c.index-standing-j.result c.index-moved-i.is c.index-standing-j.is c.if-parted.ensures.missed (not-true _ (sym c.if-push_parts.ensures.parts)) _ c.if-push_parts.ensures.held).state
 
 pub returns-then-count-pairs : goal.returns-then-count-pairs
-returns-then-count-pairs g c = full _ _ _ _ (pair g (goal.at.returns-then-count-pairs g c).In-Some) c.index-moved-i.result c.index-standing-j.result c.index-moved-i.is c.index-standing-j.is c.if-parted.ensures.missed (not_false _ c.if-push_parts.ensures.parts) c.if-count-pairs.true
+returns-then-count-pairs g c = full _ _ _ _ (pair g (goal.at.returns-then-count-pairs g c).In-Some) c.index-moved-i.result c.index-standing-j.result c.index-moved-i.is c.index-standing-j.is c.if-parted.ensures.missed (not-false _ (sym c.if-push_parts.ensures.parts)) c.if-count-pairs.true
 
 pub loop-i-smaller : goal.loop-i-smaller
-loop-i-smaller g c = (facets_goes _ _ _ _ (pair g (goal.at.loop-i-smaller g c).In-Some) c.index-moved-i.result c.index-standing-j.result c.index-moved-i.is c.index-standing-j.is c.if-parted.ensures.missed (not_false _ c.if-push_parts.ensures.parts) c.if-count-pairs.false _ c.if-push_parts.ensures.held).less
+loop-i-smaller g c = (facets_goes _ _ _ _ (pair g (goal.at.loop-i-smaller g c).In-Some) c.index-moved-i.result c.index-standing-j.result c.index-moved-i.is c.index-standing-j.is c.if-parted.ensures.missed (not-false _ (sym c.if-push_parts.ensures.parts)) c.if-count-pairs.false _ c.if-push_parts.ensures.held).less
 
 pub loop-i-preserved : goal.loop-i-preserved
 loop-i-preserved g c =
-    (facets_goes _ _ _ _ (pair g (goal.at.loop-i-preserved g c).In-Some) c.index-moved-i.result c.index-standing-j.result c.index-moved-i.is c.index-standing-j.is c.if-parted.ensures.missed (not_false _ c.if-push_parts.ensures.parts) c.if-count-pairs.false _ c.if-push_parts.ensures.held).state
+    (facets_goes _ _ _ _ (pair g (goal.at.loop-i-preserved g c).In-Some) c.index-moved-i.result c.index-standing-j.result c.index-moved-i.is c.index-standing-j.is c.if-parted.ensures.missed (not-false _ (sym c.if-push_parts.ensures.parts)) c.if-count-pairs.false _ c.if-push_parts.ensures.held).state
 
 pub returns : goal.returns
-returns g c = done _ (none_left _ c.in_default.ensures.variant) c.loop-i.invariant
+returns g c =
+    let none : length c.loop-i.stack.items ≡ 0 = grind (arith, c.in_default.ensures.variant) in
+    done _ none c.loop-i.invariant

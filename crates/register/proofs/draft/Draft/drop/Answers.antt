@@ -8,19 +8,14 @@ use Rattle.register.proofs.Fields.{sound, length_items}
 use Rattle.register.proofs.Clearing.{book_cleared}
 use Rattle.register.proofs.draft.Draft.drop.Goals as goal
 
-pub returns-then-not-holds : goal.returns-then-not-holds
-returns-then-not-holds g c =
-    record { said = other_draft (book_of c.args.register.now) _ _ c.args.self.mark refl (sym c.holds.ensures ∙ c.if-not-holds.true); back = refl; table = refl; lent = refl }
+pub returns-then-not-holds-clause-said : goal.returns-then-not-holds-clause-said
+returns-then-not-holds-clause-said g c =
+    other_draft (book_of c.args.register.now) _ _ c.args.self.mark refl (sym c.holds.ensures ∙ c.if-not-holds.true)
 
-pub returns : goal.returns
+pub returns-clause-said : goal.returns-clause-said
 unfolding book_of book_over
-returns g c =
+returns-clause-said g c =
     let r = c.args.register.now in
     let m = c.args.self.mark in
     let h = sym c.holds.ensures ∙ c.if-not-holds.false in
-    record {
-      said = goes (book_of r) _ _ _ (drop_yes (book_of r) m h) (ap answer.Removed (sym (written_length _ _ _ _ _ (sound r) (length_items r.table.now) (here_parts r.ledger _ m h).0))) (book_cleared r c.clear.new.self c.clear.ensures.ledger c.clear.ensures.table);
-      back = tt;
-      table = c.clear.ensures.table;
-      lent = c.clear.ensures.lent;
-    }
+    goes (book_of r) _ _ _ (drop_yes (book_of r) m h) (ap answer.Removed (sym (written_length _ _ _ _ _ (sound r) (length_items r.table.now) (here_parts r.ledger _ m h).0))) (book_cleared r c.clear.new.self c.clear.ensures.ledger c.clear.ensures.table)

@@ -13,8 +13,9 @@ use Rattle.register.proofs.Fields.{sound, stored_place, length_items}
 use Rattle.register.proofs.Entering.{page_items, page_heights, page_tieds, page_sane, page_count, page_small, i_in, k_in, i_small, k_small, too_high, table_full, accepted, may_join, hull_grown, wrote_joined, tie_stands, book_after}
 use Rattle.register.proofs.draft.Draft.tie.Goals as goal
 
-pub returns-then-not-holds : goal.returns-then-not-holds
-returns-then-not-holds g c = record { said = other_draft (book_of c.args.register.now) _ _ c.args.self.mark refl (sym c.holds.ensures ∙ c.if-not-holds.true); back = refl; table = refl; place = refl; lent = refl }
+pub returns-then-not-holds-clause-said : goal.returns-then-not-holds-clause-said
+returns-then-not-holds-clause-said g c =
+    other_draft (book_of c.args.register.now) _ _ c.args.self.mark refl (sym c.holds.ensures ∙ c.if-not-holds.true)
 
 pub free_parts-requires : goal.free_parts-requires
 free_parts-requires g c = page_tieds c.args.register.now _ c.page-page.ensures
@@ -23,21 +24,15 @@ free_parts-requires g c = page_tieds c.args.register.now _ c.page-page.ensures
 parts : (p : List Item) (x y : ℤ) (i k : ℕ) → SFits w64 x → SFits w64 y → FreeParts p (to_z w64 (of_z w64 x)) (to_z w64 (of_z w64 y)) i k → FreeParts p x y i k
 parts p x y i k fx fy f = record { x_is = sym (to_z-of_z w64 x fx) ∙ f.x_is; y_is = sym (to_z-of_z w64 y fy) ∙ f.y_is; free = f.free }
 
-pub returns-in_default : goal.returns-in_default
+pub returns-in_default-clause-said : goal.returns-in_default-clause-said
 unfolding book_of
-returns-in_default g c =
+returns-in_default-clause-said g c =
     let r = c.args.register.now in
     let h = sym c.holds.ensures ∙ c.if-not-holds.false in
     let fx = c.ranges.x in
     let fy = c.ranges.y in
     let no : joins (items_of c.page-page.result.now) c.args.x c.args.y ≡ false = simp to_z-of_z at c.in_default.ensures in
-    record {
-      said = tie_6 (book_of r) c.args.self.mark h _ (page_some r.ledger _ (here_parts r.ledger _ c.args.self.mark h).0) c.args.x c.args.y (subst (λ q. joins q c.args.x c.args.y ≡ false) (page_items r _ c.page-page.ensures) no);
-      back = refl;
-      table = refl;
-      place = refl;
-      lent = refl;
-    }
+    tie_6 (book_of r) c.args.self.mark h _ (page_some r.ledger _ (here_parts r.ledger _ c.args.self.mark h).0) c.args.x c.args.y (subst (λ q. joins q c.args.x c.args.y ≡ false) (page_items r _ c.page-page.ensures) no)
 
 pub tie_height-height-requires : goal.tie_height-height-requires
 tie_height-height-requires g c =
@@ -46,27 +41,15 @@ tie_height-height-requires g c =
     let f = c.in-Some.ensures in
     record { within = (i_in r _ e _ _ _ _ f, k_in r _ e _ _ _ _ f); known = (page_heights r _ e, page_sane r _ e) }
 
-pub returns-then-height-gt-HEIGHT : goal.returns-then-height-gt-HEIGHT
-returns-then-height-gt-HEIGHT g c =
+pub returns-then-height-gt-HEIGHT-clause-said : goal.returns-then-height-gt-HEIGHT-clause-said
+returns-then-height-gt-HEIGHT-clause-said g c =
     let f = parts _ _ _ _ _ c.ranges.x c.ranges.y c.in-Some.ensures in
-    record {
-      said = too_high c.args.register.now _ c.page-page.ensures _ _ _ _ f _ c.tie_height-height.ensures c.args.self.mark (sym c.holds.ensures ∙ c.if-not-holds.false) c.if-height-gt-HEIGHT.true;
-      back = refl;
-      table = refl;
-      place = refl;
-      lent = refl;
-    }
+    too_high c.args.register.now _ c.page-page.ensures _ _ _ _ f _ c.tie_height-height.ensures c.args.self.mark (sym c.holds.ensures ∙ c.if-not-holds.false) c.if-height-gt-HEIGHT.true
 
-pub returns-then-not-has_room : goal.returns-then-not-has_room
-returns-then-not-has_room g c =
+pub returns-then-not-has_room-clause-said : goal.returns-then-not-has_room-clause-said
+returns-then-not-has_room-clause-said g c =
     let f = parts _ _ _ _ _ c.ranges.x c.ranges.y c.in-Some.ensures in
-    record {
-      said = table_full c.args.register.now _ c.page-page.ensures _ _ _ _ f _ c.tie_height-height.ensures c.args.self.mark (sym c.holds.ensures ∙ c.if-not-holds.false) c.if-height-gt-HEIGHT.false (sym c.has_room.ensures.room ∙ c.if-not-has_room.true);
-      back = refl;
-      table = refl;
-      place = refl;
-      lent = refl;
-    }
+    table_full c.args.register.now _ c.page-page.ensures _ _ _ _ f _ c.tie_height-height.ensures c.args.self.mark (sym c.holds.ensures ∙ c.if-not-holds.false) c.if-height-gt-HEIGHT.false (sym c.has_room.ensures.room ∙ c.if-not-has_room.true)
 
 pub bounds-page-left : goal.bounds-page-left
 bounds-page-left g c = i_in c.args.register.now _ c.page-page.ensures _ _ _ _ c.in-Some.ensures
@@ -102,9 +85,9 @@ join-requires g c =
 pub overflow_cast-result : goal.overflow_cast-result
 overflow_cast-result g c = let n = page_small c.args.register.now _ c.page-page.ensures in search rules
 
-pub returns : goal.returns
+pub returns-clause-said : goal.returns-clause-said
 unfolding book_of
-returns g c =
+returns-clause-said g c =
     let r = c.args.register.now in
     let m = c.args.self.mark in
     let a = c.in-Some.left in
@@ -120,12 +103,41 @@ returns g c =
     let t = c.join.new.self.table.now in
     let w = c.join.ensures.table in
     let is : item.Tie a b ≡ item.Tie (nat_abs c.args.x) (nat_abs c.args.y) = sym (ap (λ (z : ℤ). item.Tie (nat_abs z) (nat_abs c.args.y)) f.x_is ∙ ap (λ (z : ℤ). item.Tie a (nat_abs z)) f.y_is) in
-    record {
-      said = goes (book_of r) _ _ _ (accepted r _ e _ _ _ _ f _ k m h low (sym c.has_room.ensures.room ∙ c.if-not-has_room.false))
-          (ap answer.Entered (page_count r _ e ∙ sym (written_length _ _ _ _ _ (sound r) (length_items r.table.now) o)))
-          (book_after r a b tie j t w _ c.join.ensures.ledger ∙ ap (added (book_of r)) is);
-      back = refl;
-      table = subst₂ (λ (k : ℕ) (e : Item). Wrote r.table.now t k e) (sym (stored_place r)) is (wrote_joined r.table.now r.ledger.used tie _ refl t _ _ w);
-      place = tie_stands r _ e a b c.index-page-left.result (i_in r _ e _ _ _ _ f) c.index-page-left.is _ c.over_item.ensures _ _ f _ k tie refl j t w;
-      lent = c.join.ensures.lent;
-    }
+    goes (book_of r) _ _ _ (accepted r _ e _ _ _ _ f _ k m h low (sym c.has_room.ensures.room ∙ c.if-not-has_room.false))
+    (ap answer.Entered (page_count r _ e ∙ sym (written_length _ _ _ _ _ (sound r) (length_items r.table.now) o)))
+    (book_after r a b tie j t w _ c.join.ensures.ledger ∙ ap (added (book_of r)) is)
+
+pub returns-clause-table : goal.returns-clause-table
+unfolding book_of
+returns-clause-table g c =
+    let r = c.args.register.now in
+    let a = c.in-Some.left in
+    let b = c.in-Some.right in
+    let e = c.page-page.ensures in
+    let f = parts _ _ _ _ _ c.ranges.x c.ranges.y c.in-Some.ensures in
+    let k = c.tie_height-height.ensures in
+    let tie : _ = record { item = item.Tie a b; height = c.tie_height-height.result; tied = false; hull = c.over_item.result } in
+    let t = c.join.new.self.table.now in
+    let w = c.join.ensures.table in
+    let is : item.Tie a b ≡ item.Tie (nat_abs c.args.x) (nat_abs c.args.y) = sym (ap (λ (z : ℤ). item.Tie (nat_abs z) (nat_abs c.args.y)) f.x_is ∙ ap (λ (z : ℤ). item.Tie a (nat_abs z)) f.y_is) in
+    subst₂ (λ (k : ℕ) (e : Item). Wrote r.table.now t k e) (sym (stored_place r)) is (wrote_joined r.table.now r.ledger.used tie _ refl t _ _ w)
+
+pub returns-clause-place : goal.returns-clause-place
+unfolding book_of
+returns-clause-place g c =
+    let r = c.args.register.now in
+    let m = c.args.self.mark in
+    let a = c.in-Some.left in
+    let b = c.in-Some.right in
+    let h = sym c.holds.ensures ∙ c.if-not-holds.false in
+    let o = (here_parts r.ledger _ m h).0 in
+    let e = c.page-page.ensures in
+    let f = parts _ _ _ _ _ c.ranges.x c.ranges.y c.in-Some.ensures in
+    let low = c.if-height-gt-HEIGHT.false in
+    let k = c.tie_height-height.ensures in
+    let tie : _ = record { item = item.Tie a b; height = c.tie_height-height.result; tied = false; hull = c.over_item.result } in
+    let j = may_join r _ e _ _ a b f _ k tie o (ltb-true _ _ (sym c.has_room.ensures.below ∙ c.if-not-has_room.false)) low refl refl refl (hull_grown r _ e a b c.index-page-left.result (i_in r _ e _ _ _ _ f) c.index-page-left.is _ c.over_item.ensures) in
+    let t = c.join.new.self.table.now in
+    let w = c.join.ensures.table in
+    let is : item.Tie a b ≡ item.Tie (nat_abs c.args.x) (nat_abs c.args.y) = sym (ap (λ (z : ℤ). item.Tie (nat_abs z) (nat_abs c.args.y)) f.x_is ∙ ap (λ (z : ℤ). item.Tie a (nat_abs z)) f.y_is) in
+    tie_stands r _ e a b c.index-page-left.result (i_in r _ e _ _ _ _ f) c.index-page-left.is _ c.over_item.ensures _ _ f _ k tie refl j t w

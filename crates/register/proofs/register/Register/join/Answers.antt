@@ -2,7 +2,7 @@ use Rattle.std.proofs.Common.{refl, rules}
 use borrow.Author.Rules.{scaled_Fits}
 use Rattle.std.proofs.lemmas.List.{length-set}
 use Rattle.register.proofs.Fields.{spread}
-use Rattle.register.proofs.Entering.{off, x_place, y_place, at_place, some_loose, grown_off, items_off, hulls_off, length_off, ghosts_off, joined3, ghosts3}
+use Rattle.register.proofs.Entering.{off, x_place, y_place, some_loose, grown_off, items_off, hulls_off, length_off, ghosts_off, joined3, ghosts3}
 use Rattle.register.proofs.register.Register.join.Goals as goal
 
 pub overflow_sub-loose : goal.overflow_sub-loose
@@ -45,11 +45,9 @@ invariant_of-self-3 g c =
     let d = c.index-self-i.result in
     ghosts_off r _ (length_off r _ refl refl refl _ d _ h refl refl) (items_off r _ refl refl refl _ d _ h refl refl) (hulls_off r _ refl refl refl _ d _ h refl refl) _ c.index-self-j.result _ (y_place _ _ _ _ c.requires) refl refl
 
-pub offset_bounds-self-at : goal.offset_bounds-self-at
-offset_bounds-self-at g c = scaled_Fits _ _ _ (at_place _ _ _ _ c.requires) (search rules)
-
 pub invariant_of-self-4 : goal.invariant_of-self-4
 invariant_of-self-4 g c = ghosts3 _ _ _ _ c.requires c.index-self-i.result c.index-self-j.result
 
-pub returns : goal.returns
-returns g c = record { ledger = refl; table = joined3 _ _ _ _ c.requires c.index-self-i.result c.index-self-j.result; lent = refl }
+pub returns-clause-table : goal.returns-clause-table
+returns-clause-table g c =
+    joined3 _ _ _ _ c.requires c.index-self-i.result c.index-self-j.result

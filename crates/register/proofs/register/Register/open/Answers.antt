@@ -12,8 +12,8 @@ invariant_of-result g c =
     let e : c.min-end.result ≡ min (length c.args.table.now) place_limit = search rules in
     spread g.H.Hull _ c.args.table.now (sound_opened c.args.mark 0 c.min-end.result (length c.args.table.now) (replicate 64 (record { from = 0; to = 0 })) _ _ _ (omega arith) (omega arith) (omega arith) refl) (refl, e) (grown_opened _ _ _ _ _ refl refl)
 
-pub returns : goal.returns
+pub returns-clause-book : goal.returns-clause-book
 unfolding book_of book_over objects
-returns g c =
+returns-clause-book g c =
     let e : c.min-end.result ≡ min (length c.args.table.now) place_limit = search rules in
-    record { book = same_book (omega arith) refl refl; table = refl }
+    same_book (omega arith) refl refl

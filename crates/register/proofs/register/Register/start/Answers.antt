@@ -7,32 +7,27 @@ use Rattle.register.specs.Registers.{book_of}
 use Rattle.register.proofs.Fields.{sound}
 use Rattle.register.proofs.register.Register.start.Goals as goal
 
-pub returns-then-self : goal.returns-then-self
+pub returns-then-self-clause-said : goal.returns-then-self-clause-said
 unfolding book_of
-returns-then-self g c =
+returns-then-self-clause-said g c =
     let b = book_of c.args.self.now in
-    record { said = stays b _ DraftOpen refl (start_1 b (ap is_some (page_some _ _ c.if-self.true))); marked = tt; table = refl; lent = refl }
+    stays b _ DraftOpen refl (start_1 b (ap is_some (page_some _ _ c.if-self.true)))
 
-pub returns-then-self-ge-OBJECTS : goal.returns-then-self-ge-OBJECTS
+pub returns-then-self-ge-OBJECTS-clause-said : goal.returns-then-self-ge-OBJECTS-clause-said
 unfolding book_of
-returns-then-self-ge-OBJECTS g c =
+returns-then-self-ge-OBJECTS-clause-said g c =
     let r = c.args.self.now in
     let b = book_of r in
-    record {
-      said = stays b _ ObjectsFull refl (start_2 b (ap is_some (page_none _ _ c.if-self.false)) (omega (arith, count_objects _ _ _ _ _ (sound r), c.if-self-ge-OBJECTS.true)));
-      marked = tt;
-      table = refl;
-      lent = refl;
-    }
+    stays b _ ObjectsFull refl (start_2 b (ap is_some (page_none _ _ c.if-self.false)) (omega (arith, count_objects _ _ _ _ _ (sound r), c.if-self-ge-OBJECTS.true)))
 
-pub returns : goal.returns
+pub returns-clause-said : goal.returns-clause-said
 unfolding book_of book_over
-returns g c =
+returns-clause-said g c =
     let r = c.args.self.now in
     let b = book_of r in
-    record {
-      said = goes b _ _ _ (start_yes b (ap is_some (page_none r.ledger _ c.if-self.false)) (omega (arith, count_objects _ _ _ _ _ (sound r), c.if-self-ge-OBJECTS.false))) refl (book_started _ _ _ _ _ (sound r) c.if-self.false);
-      marked = refl;
-      table = refl;
-      lent = refl;
-    }
+    goes b _ _ _ (start_yes b (ap is_some (page_none r.ledger _ c.if-self.false)) (omega (arith, count_objects _ _ _ _ _ (sound r), c.if-self-ge-OBJECTS.false))) refl (book_started _ _ _ _ _ (sound r) c.if-self.false)
+
+pub returns-clause-marked : goal.returns-clause-marked
+unfolding book_of book_over
+returns-clause-marked g c =
+    refl
