@@ -1,5 +1,6 @@
 -- The trees of a page, read off its items, and pages that come of accepted calls.
 use Rattle.std.proofs.Common.{◌≡◌, ℕ, zero, suc, ◌+◌, ◌<◌, ◌≤◌, true, false, not, ◌&&◌, eqb, ltb, List, [], ◌∷◌, ◌++◌, length, get_or, take, drop, fold, sym, refl, ap, ◌∙◌, subst, zero-le, arith}
+use Rattle.std.proofs.lemmas.List.Sums.{fold-append}
 use Rattle.std.proofs.lemmas.List.{length_push, length-take-le, map_push, get_or_append_left, get_or_push, take-append-drop, drop_more, append_assoc, append-nil}
 use Rattle.std.proofs.lemmas.List.Sums.{fold_push}
 use Rattle.std.proofs.lemmas.Bool.{and_parts, and_from, ltb-true, leb-true, eqb-false, not-true, not_from_false, lt-ltb, ne_eqb}
@@ -31,13 +32,9 @@ kept_read : (q : List Item) (ts : List Tree) (i : ℕ) (d : Tree) → i < length
 kept_read [] ts i d h = refl
 kept_read (e ∷ q) ts i d h = kept_read q (read ts e) i d (omega (arith, length_push ts (tree_of ts e))) ∙ get_or_append_left ts (tree_of ts e ∷ []) d i h
 
-pub folded_append : {A B : Type 0} (f : B → A → B) (a : B) (p q : List A) → fold f a (p ++ q) ≡ fold f (fold f a p) q
-folded_append f a [] q = refl
-folded_append f a (x ∷ p) q = folded_append f (f a x) p q
-
 front_read : (p q : List Item) (i : ℕ) → i < length (trees p) → tree (p ++ q) i ≡ tree p i
 unfolding trees
-front_read p q i l = ap (λ ts. get_or ts i no_tree) (folded_append read [] p q) ∙ kept_read q (fold read [] p) i no_tree l
+front_read p q i l = ap (λ ts. get_or ts i no_tree) (fold-append read [] p q) ∙ kept_read q (fold read [] p) i no_tree l
 
 pub tree_front : (p q : List Item) (i : ℕ) → i < length p → tree (p ++ q) i ≡ tree p i
 tree_front p q i h = front_read p q i (omega (arith, length_trees p))

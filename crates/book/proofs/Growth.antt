@@ -1,5 +1,6 @@
 -- Stored hulls stay those that grow from the corner lists.
 use Rattle.std.proofs.Common.{◌≡◌, ℕ, ◌+◌, ◌<◌, ◌≤◌, Bool, List, [], ◌∷◌, ◌++◌, length, get_or, set, fold, sym, ap, ◌∙◌, ⊎_elim, arith}
+use Rattle.std.proofs.lemmas.List.Sums.{fold-append}
 use Rattle.std.proofs.lemmas.List.{length_push, get_or_append_left, get_or_push, get_or-set_same, get_or-set_other}
 use Rattle.std.proofs.lemmas.Bool.{cases_lt}
 use Rattle.hull.specs.declared.corner.Corner.{Corner}
@@ -11,14 +12,14 @@ use Rattle.book.specs.Trees.{trees, tree_of, tree, corners, no_tree}
 use Rattle.book.specs.Ledgers.{slice, drafted, repaged}
 use Rattle.book.specs.Hulls.{GrownFrom, GrownPage, GrownOver}
 use Rattle.book.proofs.Slices.{slice_push, slice_kept, slice_none, length_slice}
-use Rattle.book.proofs.Forest.{trees_push, length_trees, folded_append}
+use Rattle.book.proofs.Forest.{trees_push, length_trees}
 use Rattle.book.proofs.LedgerLaws.{Sound, filed_away, page_span}
 
 module _ {H : Type 0} (begun : Corner → H) (grown : H → Corner → H) where
   -- x's hull, grown over y's corners, is grown from the tie's corner list
   pub from_more : (h : H) (cs ds : List Corner) → GrownFrom begun grown cs h → GrownFrom begun grown (cs ++ ds) (fold grown h ds)
   from_more h [] ds m = absurd m
-  from_more h (c ∷ cs) ds m = ap (λ a. fold grown a ds) m ∙ sym (folded_append grown (begun c) cs ds)
+  from_more h (c ∷ cs) ds m = ap (λ a. fold grown a ds) m ∙ sym (fold-append grown (begun c) cs ds)
 
   pub from_tie : (page : List Item) (hs : List H) (x y : ℕ) (d : H) → GrownPage begun grown page hs → x < length page
       → GrownFrom begun grown (corners (tree_of (trees page) (item.Tie x y))) (fold grown (get_or hs x d) (corners (tree page y)))
@@ -46,9 +47,6 @@ module _ {H : Type 0} (begun : Corner → H) (grown : H → Corner → H) where
     module _ (g : GrownOver begun grown l items hs) where
       pub grown_cleared : (d : Bool) → GrownOver begun grown (repaged l d l.base 0) items hs
       grown_cleared d = record { page = page_none l.base items hs; object = g.object }
-
-      pub grown_started : (d : Bool) → GrownOver begun grown (repaged l d l.used l.loose) items hs
-      grown_started d = record { page = g.page; object = g.object }
 
       pub grown_filed : length l.spans ≡ object_limit → l.closed < object_limit → GrownOver begun grown (filed_away l) items hs
       grown_filed n lt = record {

@@ -77,9 +77,6 @@ module _ (l : Ledger) (n : ℕ) (items : List Item) (hs : List ℕ) (ts : List B
   }
 
   -- a draft is started
-  pub sound_started : l.drafting ≡ false → l.closed < object_limit → Sound (repaged l true l.used l.loose) n items hs ts
-  sound_started o few = record { placed = s.placed; counted = (s.counted.0, s.counted.1, (λ _. few), λ e. s.counted.3 o); kept = s.kept; paged = s.paged }
-
   pub book_started : l.drafting ≡ false → book_over (repaged l true l.used l.loose) items ≡ turned (book_over l items) (Some [])
   unfolding book_over
   book_started o = same_book refl (ap Some (ap (λ k. slice l.base k items) (s.counted.3 o) ∙ slice_none items l.base)) refl

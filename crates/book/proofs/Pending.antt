@@ -1,6 +1,6 @@
 -- What waits on a stack while a hull grows, and how deep it gets.
 use Rattle.std.proofs.Common.{◌≡◌, ℕ, ◌+◌, ◌<◌, ◌≤◌, List, [], ◌∷◌, ◌++◌, length, get_or, fold, sum_by, sym, refl, ap, ◌∙◌, subst, ⊎_elim, arith}
-use Rattle.std.proofs.lemmas.List.{length_push, get_or_append_left, get_or_push, append_assoc, append-nil}
+use Rattle.std.proofs.lemmas.List.{length_push, get_or_append_left, get_or_push, append_assoc, append-nil, nil_from_length}
 use Rattle.std.proofs.lemmas.List.Sums.{fold_push, sum_by_push}
 use Rattle.std.proofs.lemmas.Bool.{cases_lt}
 use Rattle.hull.specs.declared.corner.Corner.{Corner}
@@ -78,11 +78,7 @@ module _ {H : Type 0} (grown : H → Corner → H) (page : List Item) (hull : H)
   growing_one i h l = record { deep = placed_push (Deep page) [] i (placed_none (Deep page)) (h, omega arith); due = ap (fold grown hull) (rest_one page i) }
 
   pub growing_none : (end : H) (p : List ℕ) → length p ≡ 0 → Growing grown page end p hull → hull ≡ end
-  growing_none end p z w = ap (λ q. fold grown hull q) (sym (rest_none page) ∙ ap (rest page) (sym (nil p z))) ∙ w.due
-    where
-      nil : (p : List ℕ) → length p ≡ 0 → p ≡ []
-      nil [] e = refl
-      nil (x ∷ q) e = absurd (omega arith)
+  growing_none end p z w = ap (λ q. fold grown hull q) (sym (rest_none page) ∙ ap (rest page) (sym (nil_from_length p z))) ∙ w.due
 
   module _ (end : H) (p : List ℕ) (i : ℕ) (w : Growing grown page end (p ++ i ∷ []) hull) where
     pub visited : Deep page (length p) i

@@ -149,8 +149,5 @@ module _ (b : Book) (n : List ℤ) where
 
 -- the table, through the calls
 module _ {H : Type 0} {kind : hull.Ghosts H} (r0 r1 r2 r3 : Register H kind) (t1 : r1.table.now ≡ r0.table.now) (t3 : r3.table.now ≡ r2.table.now) (begin : Corner → H) (grow : H → Corner → H) (e : Facet) (r : Result ℕ Refusal) (w : FilledBy (FacetStands begin grow e) r1 r2 r) where
-  pub table_kept : (why : Refusal) → r ≡ Err why → r3.table.now ≡ r0.table.now
-  table_kept why is = let v : r2.table.now ≡ r1.table.now = rw is at w in cc
-
   pub table_stands : (k : ℕ) → r ≡ Ok k → Said (book_of r0) call.Start answer.Started (book_of r1) → FacetStands begin grow e (book_of r0) r0.table.now r3.table.now
   table_stands k is s = let v : FacetStands begin grow e (book_of r1) r1.table.now r2.table.now = rw is at w in let q = stored_same (book_of r0) [] (book_of r1) s in cc

@@ -118,9 +118,6 @@ module _ {H : Type 0} {kind : hull.Ghosts H} (r : Register H kind) (x y : ℕ) (
   pub y_place : r.ledger.base + y < length (table_of r)
   y_place = omega (arith, both.y_in, count, r.placed)
 
-  pub at_place : r.ledger.used < length (table_of r)
-  at_place = omega (arith, j.room, r.placed)
-
   pub some_loose : 1 ≤ r.ledger.loose
   some_loose = omega (arith, r.paged.2, untied_two page x y both)
 

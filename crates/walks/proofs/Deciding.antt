@@ -1,5 +1,6 @@
 -- Whether some axis parts two hulls, as a test.
-use Rattle.std.proofs.Common.{◌≡◌, ℕ, Bool, true, false, ◌||◌, T, ◌⊎◌, List, [], ◌∷◌, ℤ, pos, sym, refl, subst, inl, inr, ⊎_elim, arith}
+use Rattle.std.proofs.Common.{◌≡◌, ℕ, Bool, true, false, ◌||◌, T, List, [], ◌∷◌, ℤ, pos, sym, refl, subst, inl, inr, ⊎_elim, arith}
+use Rattle.std.proofs.lemmas.Bool.{or_cases, or_left, or_right}
 use lib.Signed.{lt_z, lt_z_yes}
 use Rattle.std.specs.List.{ContainsAt as Has, AllByRecursion}
 use Rattle.std.proofs.ByRecursion.{all-has, has_get_or, has_append_right}
@@ -26,18 +27,6 @@ module _ (f g : Direction → ℤ) (p : Placement) where
 
   unfoldable pub parted? : Bool
   parted? = some? (axes_of_lem p)
-
-  or_cases : (a b : Bool) → (a || b) ≡ true → (a ≡ true) ⊎ (b ≡ true)
-  or_cases true b h = inl refl
-  or_cases false b h = inr h
-
-  or_left : (a b : Bool) → a ≡ true → (a || b) ≡ true
-  or_left true b h = refl
-  or_left false b h = absurd (let z : ◌≡◌ {A = ℕ} 0 1 = cc in omega arith)
-
-  or_right : (a b : Bool) → b ≡ true → (a || b) ≡ true
-  or_right true b h = refl
-  or_right false b h = h
 
   parts_is : (l : Axis) → parts? l ≡ true → Parts f g (rounded_axis p l)
   parts_is l h = ⊎_elim (λ e. inl (lt_z_yes (is_true _ e))) (λ e. inr (lt_z_yes (is_true _ e))) (or_cases (lt_z (pos 0) (first_gap_lem f g (rounded_axis p l))) (lt_z (pos 0) (second_gap_lem f g (rounded_axis p l))) h)

@@ -1,7 +1,7 @@
 -- The trees of an object's items, and what lies under them.
-use Rattle.std.proofs.Common.{◌≡◌, ℕ, zero, suc, ◌<◌, ◌≤◌, Bool, true, false, ◌||◌, eqb, ◌⊎◌, List, length, get_or, take, sym, refl, ap, ◌∙◌, subst, inl, inr, ⊎_elim, arith}
+use Rattle.std.proofs.Common.{◌≡◌, ℕ, zero, suc, ◌<◌, ◌≤◌, true, eqb, ◌⊎◌, List, length, get_or, take, sym, refl, ap, ◌∙◌, subst, inl, inr, ⊎_elim, arith}
 use Rattle.std.proofs.lemmas.List.{get_or_default}
-use Rattle.std.proofs.lemmas.Bool.{eqb-true}
+use Rattle.std.proofs.lemmas.Bool.{eqb-true, or_cases, or_left, or_right, eq-eqb, false≢true}
 use Rattle.book.specs.declared.item.Facet.{Facet}
 use Rattle.book.specs.declared.item.Item.{Item}
 use Rattle.book.specs.declared.item.Item.TheVariants as item
@@ -41,20 +41,10 @@ module _ (page : List Item) (good : sane page ≡ true) where
 
   -- parts of a tie
   first_part : (i x y : ℕ) → i < length page → item_at page i ≡ item.Tie x y → Part page x i
-  first_part i x y h e = record { there = h; part = ap (λ (k : Item). ties k x) e ∙ ap (λ (b : Bool). b || eqb y x) (same x) }
-    where
-      same : (n : ℕ) → eqb n n ≡ true
-      same n = grind arith
+  first_part i x y h e = record { there = h; part = ap (λ (k : Item). ties k x) e ∙ or_left (eqb x x) (eqb y x) (eq-eqb x x refl) }
 
   second_part : (i x y : ℕ) → i < length page → item_at page i ≡ item.Tie x y → Part page y i
-  second_part i x y h e = record { there = h; part = ap (λ (k : Item). ties k y) e ∙ (ap (λ (b : Bool). eqb x y || b) (same y) ∙ or_true (eqb x y)) }
-    where
-      same : (n : ℕ) → eqb n n ≡ true
-      same n = grind arith
-
-      or_true : (b : Bool) → (b || true) ≡ true
-      or_true true = refl
-      or_true false = refl
+  second_part i x y h e = record { there = h; part = ap (λ (k : Item). ties k y) e ∙ or_right (eqb x y) (eqb y y) (eq-eqb y y refl) }
 
   -- what stands inside an item's tree is the tree of an item under it
   pub record Found (s : Tree) (i : ℕ) : Type 0 where
@@ -94,18 +84,11 @@ module _ (page : List Item) (good : sane page ≡ true) where
       below = let q = part_at page good j i p in omega (arith, q.0)
 
       by : Kind i → Inside (tree page k) (tree page j) → Inside (tree page k) (tree page i)
-      by (facet f e t) w = absurd (none (sym (ap (λ (z : Item). ties z j) e) ∙ p.part))
-        where
-          none : false ≡ true → ⊥
-          none z = let w : ◌≡◌ {A = ℕ} 0 1 = cc in omega arith
+      by (facet f e t) w = absurd (false≢true (sym (ap (λ (z : Item). ties z j) e) ∙ p.part))
       by (tie x y e t a b d) w = ⊎_elim
           (λ (z : eqb x j ≡ true). subst (Inside (tree page k)) (sym t) (in_tree.first (subst (λ (n : ℕ). Inside (tree page k) (tree page n)) (sym (eqb-true x j z)) w)))
           (λ (z : eqb y j ≡ true). subst (Inside (tree page k)) (sym t) (in_tree.second (subst (λ (n : ℕ). Inside (tree page k) (tree page n)) (sym (eqb-true y j z)) w)))
           (or_cases (eqb x j) (eqb y j) (sym (ap (λ (z : Item). ties z j) e) ∙ p.part))
-        where
-          or_cases : (a b : Bool) → (a || b) ≡ true → (a ≡ true) ⊎ (b ≡ true)
-          or_cases true b h = inl refl
-          or_cases false b h = inr h
 
   -- ---- each item has one tie above it at most, so what lies above an item is a chain
   under_le : {k i : ℕ} → Under page k i → k ≤ i

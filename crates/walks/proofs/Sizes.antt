@@ -1,6 +1,7 @@
 -- An object's last item has no more items under it than the object has.
-use Rattle.std.proofs.Common.{◌≡◌, ℕ, zero, suc, ◌+◌, ◌-◌, ◌<◌, ◌≤◌, Bool, true, false, cond, ◌&&◌, List, [], ◌∷◌, ◌++◌, map, length, get_or, set, sym, refl, ap, ◌∙◌, subst, ap₂, le_of_suc-le-suc, arith}
+use Rattle.std.proofs.Common.{◌≡◌, ℕ, zero, suc, ◌+◌, ◌-◌, ◌<◌, ◌≤◌, Bool, true, false, cond, List, [], ◌∷◌, ◌++◌, map, length, get_or, set, sym, refl, ap, ◌∙◌, subst, ap₂, le_of_suc-le-suc, arith}
 use Rattle.std.proofs.lemmas.List.{length-set, length-map, get_or-map, get_or-set_other, map_push, length_push, append-nil, append_assoc}
+use Rattle.std.proofs.lemmas.Bool.{and_parts}
 use Rattle.book.specs.declared.item.Item.{Item}
 use Rattle.book.specs.declared.item.Item.TheVariants as item
 use Rattle.book.specs.Pages.{allowed, goes_on, sane}
@@ -60,21 +61,13 @@ held p k (item.Tie x y) good ok =
     ∙ free_push (set (set fs x true) y true) (sizes p) (1 + (items (tree p x) + items (tree p y))) (omega (arith, length-set (set fs x true) y true, length-set fs x true))
     ∙ omega (arith, a, b, k, size_at p x j.x_in, size_at p y j.y_in, length_push p (item.Tie x y))
 
-and_left : (a b : Bool) → (a && b) ≡ true → a ≡ true
-and_left true b h = refl
-and_left false b h = absurd (let z : ◌≡◌ {A = ℕ} 0 1 = cc in omega arith)
-
-and_right : (a b : Bool) → (a && b) ≡ true → b ≡ true
-and_right true b h = h
-and_right false b h = absurd (let z : ◌≡◌ {A = ℕ} 0 1 = cc in omega arith)
-
 all_held : (p q : List Item) → sane p ≡ true → goes_on p q ≡ true → free (flags p) (sizes p) ≡ length p → free (flags (p ++ q)) (sizes (p ++ q)) ≡ length (p ++ q)
 unfolding goes_on
 all_held p [] good ok k = subst (λ (r : List Item). free (flags r) (sizes r) ≡ length r) (sym (append-nil p)) k
 all_held p (e ∷ q) good ok k =
-    let a = and_left (allowed p e) (goes_on (p ++ e ∷ []) q) ok in
+    let a = and_parts (allowed p e) (goes_on (p ++ e ∷ []) q) ok in
     subst (λ (r : List Item). free (flags r) (sizes r) ≡ length r) (append_assoc p (e ∷ []) q)
-    (all_held (p ++ e ∷ []) q (sane_push p e good a) (and_right (allowed p e) (goes_on (p ++ e ∷ []) q) ok) (held p k e good a))
+    (all_held (p ++ e ∷ []) q (sane_push p e good a.0) a.1 (held p k e good a.0))
 
 held_all : (p : List Item) → sane p ≡ true → free (flags p) (sizes p) ≡ length p
 unfolding sane goes_on flags sizes trees

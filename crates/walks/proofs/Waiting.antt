@@ -2,7 +2,7 @@
 use Rattle.std.proofs.Common.{◌≡◌, ℕ, ◌+◌, ◌≤◌, Bool, true, false, cond, List, [], ◌∷◌, ◌++◌, fold, sym, ap, ◌∙◌, append_assoc, arith}
 use Rattle.book.specs.declared.item.Facet.{Facet}
 use Rattle.book.specs.Trees.{Tree, leaf, node}
-use Rattle.book.proofs.Forest.{folded_append}
+use Rattle.std.proofs.lemmas.List.Sums.{fold-append}
 use Rattle.walks.proofs.Functional.{Result, none, two, four, walked}
 
 -- a pair that waits
@@ -23,11 +23,11 @@ module _ (parted : Tree → Tree → Bool) where
 
   pub ahead_push : (ws : List Waits) (t u : Tree) → ahead (ws ++ (t, u) ∷ []) ≡ (walked parted t u).0 ++ ahead ws
   unfolding ahead
-  ahead_push ws t u = folded_append (λ (ps : List (ℕ × ℕ)) (w : Waits). (walked parted w.0 w.1).0 ++ ps) [] ws ((t, u) ∷ [])
+  ahead_push ws t u = fold-append (λ (ps : List (ℕ × ℕ)) (w : Waits). (walked parted w.0 w.1).0 ++ ps) [] ws ((t, u) ∷ [])
 
   pub to_go_push : (ws : List Waits) (t u : Tree) → to_go (ws ++ (t, u) ∷ []) ≡ (walked parted t u).1 + to_go ws
   unfolding to_go
-  to_go_push ws t u = folded_append (λ (n : ℕ) (w : Waits). (walked parted w.0 w.1).1 + n) 0 ws ((t, u) ∷ [])
+  to_go_push ws t u = fold-append (λ (n : ℕ) (w : Waits). (walked parted w.0 w.1).1 + n) 0 ws ((t, u) ∷ [])
 
   -- a walk makes a test
   pub some_tests : (t u : Tree) → 1 ≤ (walked parted t u).1
