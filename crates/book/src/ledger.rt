@@ -14,10 +14,11 @@ pub struct Ledger {
     // the stretch: its first place, and the place after its last
     pub first: usize,
     pub end: usize,
-    // the closed objects
+    // the closed objects, the first of 64 spans: fixed memory, since a register allocates nothing
     pub closed: usize,
     pub spans: [Span; 64],
-    // the draft: whether one is open, its first place, the place after its last, and how many of its items no tie has
+    // the draft: whether one is open, its first place, the place after its last, and how many of its items no tie has; a flag and no
+    // Option, since base and used are the first free place where none is open
     pub drafting: bool,
     pub base: usize,
     pub used: usize,

@@ -47,6 +47,8 @@ fn compare_at<H: Hull>(
 
 // Opens a register over the table and makes what is asked in turn, as much as there are places for answers. Comparison k lists its pairs in
 // the k-th stretch of so many places.
+//
+// The number of places and the list stay two arguments: a struct would be built at each call and taken apart at once.
 pub fn replay_requests<H: Hull, R: Asked>(
     mark: u16,
     table: &mut [Place<H>],
@@ -60,6 +62,7 @@ pub fn replay_requests<H: Hull, R: Asked>(
     let mut register = Register::open(mark, table);
     let count = requests.len().min(answers.len());
     let mut from = 0;
+    // An answer is written by its number: of what a zip with iter_mut writes, the proof learns nothing.
     for (i, asked) in requests[..count].iter().enumerate() {
         let answer = match asked.request() {
             Request::Write(call) => make(&mut register, call),
