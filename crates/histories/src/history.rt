@@ -1,17 +1,29 @@
-// A history of calls with their expected answers.
-use super::line::{Code, code_of};
+// A history of calls with the answers that are due.
+use super::line::Due;
 use book::{Answer, Call, Item};
 use faced::BoxHull;
 use hull::{Corner, Hull};
 use register::{Place, replay};
 use std::alloc::{AllocError, Global};
 
+// Two lists of one length, since a replay takes the calls as a slice of their own.
 #[derive(Drop)]
 pub struct History {
     mark: u16,
     places: usize,
     calls: Vec<Call>,
-    expected: Vec<Code>,
+    dues: Vec<Due>,
+}
+
+// A place that holds anything.
+fn some_place() -> Place<BoxHull> {
+    let corner = Corner::new(1, 2, 3).unwrap();
+    Place {
+        item: Item::Tie(7, 7),
+        height: 200,
+        tied: true,
+        hull: BoxHull::first(corner),
+    }
 }
 
 impl History {
@@ -21,29 +33,20 @@ impl History {
             mark,
             places,
             calls: Vec::new(heap),
-            expected: Vec::new(heap),
+            dues: Vec::new(heap),
         }
     }
 
     // One more call.
-    pub(crate) fn add(&mut self, call: Call, expected: Code) -> Result<(), AllocError> {
+    pub(crate) fn add(&mut self, call: Call, due: Due) -> Result<(), AllocError> {
         self.calls.push(call)?;
-        self.expected.push(expected)?;
+        self.dues.push(due)?;
         Ok(())
     }
 
-    // How many calls get the expected answer, over a table that holds anything.
-    pub(crate) fn agreeing(&self, heap: Global) -> Result<u64, AllocError> {
-        let Some(corner) = Corner::new(1, 2, 3) else {
-            return Ok(0);
-        };
-        let place = Place {
-            item: Item::Tie(7, 7),
-            height: 200,
-            tied: true,
-            hull: BoxHull::first(corner),
-        };
-        let mut table = vec![in heap; place; self.places]?;
+    // How many calls get the answer that is due, over a table that holds anything.
+    pub(crate) fn agreeing(&self, heap: Global) -> Result<usize, AllocError> {
+        let mut table = vec![in heap; some_place(); self.places]?;
         let mut answers = vec![in heap; Answer::Started; self.calls.len()]?;
         replay(
             self.mark,
@@ -51,12 +54,7 @@ impl History {
             self.calls.as_slice(),
             answers.as_mut_slice(),
         );
-        let mut count: u64 = 0;
-        for (answer, expected) in answers.iter().zip(self.expected.iter()) {
-            if code_of(*answer) == *expected {
-                count = count.saturating_add(1);
-            }
-        }
-        Ok(count)
+        let pairs = answers.iter().zip(self.dues.iter());
+        Ok(pairs.filter(|(answer, due)| **due == Some(**answer)).count())
     }
 }

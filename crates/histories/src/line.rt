@@ -1,119 +1,75 @@
-// One line: the opening of a history, or a call with its expected answer.
-use book::{Answer, Call};
+// One line: the opening of a history, or a call with the answer that is due.
+use super::words::{Words, end, number, numbers};
+use book::{Answer, Call, Refusal};
 
-// An answer as its sort and its number, so that two can be compared.
-#[derive(Clone, Copy, PartialEq, Eq)]
-pub struct Code {
-    sort: u8,
-    number: u64,
-}
+// The answer that is due to a call, or none where the line gives a number that no such answer has: then no answer is right.
+pub type Due = Option<Answer>;
 
 #[derive(Clone, Copy)]
 pub enum Line {
     Open(u16, usize),
-    Expect(Call, Code),
+    Expect(Call, Due),
 }
 
-// The code of an answer. A list answers only a comparison, and a history has none: no line has the code of one.
-pub(crate) fn code_of(answer: Answer) -> Code {
-    match answer {
-        Answer::Started => Code { sort: 0, number: 0 },
-        Answer::Entered(n) => Code {
-            sort: 1,
-            number: n as u64,
-        },
-        Answer::Filed(n) => Code {
-            sort: 2,
-            number: n as u64,
-        },
-        Answer::Removed(n) => Code {
-            sort: 3,
-            number: n as u64,
-        },
-        Answer::Refused(why) => Code {
-            sort: 4,
-            number: why.number() as u64,
-        },
-        Answer::Listed(pairs, _) => Code {
-            sort: 5,
-            number: pairs as u64,
-        },
-    }
-}
-
-// The code of an answer as a line has it.
-fn read_answer(text: &str) -> Option<Code> {
-    if text == "started" {
-        return Some(Code { sort: 0, number: 0 });
-    }
-    let (word, number) = text.split_once(' ')?;
-    let number = number.parse::<u64>().ok()?;
-    let sort = match word {
-        "entered" => 1,
-        "filed" => 2,
-        "removed" => 3,
-        "refused" => 4,
-        _ => return None,
-    };
-    Some(Code { sort, number })
-}
-
-// The nine numbers of a facet, parted by single spaces.
-fn read_nine(text: &str) -> Option<[i64; 9]> {
-    let mut numbers = [0; 9];
-    let mut count = 0usize;
-    for word in text.split(' ') {
-        if count >= 9 {
-            return None;
-        }
-        numbers[count] = word.parse::<i64>().ok()?;
-        count += 1;
-    }
-    if count == 9 { Some(numbers) } else { None }
-}
-
-// A call of this name with what follows its mark.
-fn read_marked(name: &str, mark: u16, rest: &str) -> Option<Call> {
-    match name {
-        "facet" => Some(Call::Facet(mark, read_nine(rest)?)),
-        "tie" => {
-            let (x, y) = rest.split_once(' ')?;
-            Some(Call::Tie(mark, x.parse::<i64>().ok()?, y.parse::<i64>().ok()?))
-        }
-        _ => None,
-    }
-}
-
-// A call as a line has it.
-fn read_call(text: &str) -> Option<Call> {
-    if text == "start" {
-        return Some(Call::Start);
-    }
-    let (name, rest) = text.split_once(' ')?;
-    match name {
-        "close" => Some(Call::Close(rest.parse::<u16>().ok()?)),
-        "drop" => Some(Call::Drop(rest.parse::<u16>().ok()?)),
-        _ => {
-            let (mark, rest) = rest.split_once(' ')?;
-            read_marked(name, mark.parse::<u16>().ok()?, rest)
-        }
-    }
-}
-
-// The opening of a history as a line has it.
+// The opening that a line is.
 fn read_opening(text: &str) -> Option<Line> {
-    let (word, rest) = text.split_once(' ')?;
-    let (mark, places) = rest.split_once(' ')?;
-    if word != "open" {
+    let mut words = text.split(' ');
+    if words.next()? != "open" {
         return None;
     }
-    Some(Line::Open(mark.parse::<u16>().ok()?, places.parse::<usize>().ok()?))
+    let opening = Line::Open(number(&mut words)?, number(&mut words)?);
+    end(&mut words)?;
+    Some(opening)
+}
+
+// The call that a text is.
+fn read_call(text: &str) -> Option<Call> {
+    let mut words = text.split(' ');
+    let call = match words.next()? {
+        "start" => Call::Start,
+        "facet" => Call::Facet(number(&mut words)?, numbers(&mut words)?),
+        "tie" => Call::Tie(
+            number(&mut words)?,
+            number(&mut words)?,
+            number(&mut words)?,
+        ),
+        "close" => Call::Close(number(&mut words)?),
+        "drop" => Call::Drop(number(&mut words)?),
+        _ => return None,
+    };
+    end(&mut words)?;
+    Some(call)
+}
+
+// The number that the next word is, or none within where it does not fit an answer.
+fn fitting<T: TryFrom<u64>>(words: &mut Words<'_>) -> Option<Option<T>>
+where
+    T::Error: Drop,
+{
+    Some(T::try_from(number(words)?).ok())
+}
+
+// The answer that a text is. A list answers only a comparison, and a history has none.
+fn read_due(text: &str) -> Option<Due> {
+    let mut words = text.split(' ');
+    let due = match words.next()? {
+        "started" => Some(Answer::Started),
+        "entered" => fitting(&mut words)?.map(Answer::Entered),
+        "filed" => fitting(&mut words)?.map(Answer::Filed),
+        "removed" => fitting(&mut words)?.map(Answer::Removed),
+        "refused" => fitting::<u8>(&mut words)?
+            .and_then(|number| Refusal::try_from(number).ok())
+            .map(Answer::Refused),
+        _ => return None,
+    };
+    end(&mut words)?;
+    Some(due)
 }
 
 // What a line says, where it is well formed.
 pub(crate) fn read_line(text: &str) -> Option<Line> {
     match text.split_once(" = ") {
-        Some((call, answer)) => Some(Line::Expect(read_call(call)?, read_answer(answer)?)),
+        Some((call, answer)) => Some(Line::Expect(read_call(call)?, read_due(answer)?)),
         None => read_opening(text),
     }
 }
