@@ -15,7 +15,7 @@ pub struct History {
     dues: Vec<Due>,
 }
 
-// A place that holds anything.
+// A place that holds anything. A library that makes one for all programs would have to promise what it holds.
 fn some_place() -> Place<BoxHull> {
     let corner = Corner::new(1, 2, 3).unwrap();
     Place {

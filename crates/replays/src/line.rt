@@ -1,15 +1,8 @@
 // One line: the opening of a history, or a call with all that is due to it.
-use super::reply::Reply;
 use super::words::{Words, end, number, numbers};
-use book::{Call, Comparison};
+use book::{Answer, Call, Comparison, Refusal, Request};
+use jobtext::Kind;
 use std::alloc::{AllocError, Global};
-
-#[derive(Clone, Copy)]
-pub enum Kind {
-    Box,
-    Many,
-    Ball,
-}
 
 // What a register is opened with: its kind and its mark, the places of its table, those of the list that is lent for all comparisons,
 // and how many of these each comparison has.
@@ -22,12 +15,18 @@ pub struct Opening {
     pub lent: usize,
 }
 
-// A call comes with the answer that is due, and a comparison also with the pairs of its list.
+// What is due to a call: an answer, or none where the line gives a number that no refusal has (then no answer is right), and the pairs
+// of the list of a comparison.
+#[derive(Drop)]
+pub struct Due {
+    pub answer: Option<Answer>,
+    pub pairs: Option<Vec<(u32, u32)>>,
+}
+
 #[derive(Drop)]
 pub enum Line {
     Open(Opening),
-    Write(Call, Reply),
-    Compare(Comparison, Reply, Vec<(u32, u32)>),
+    Expect(Request, Due),
 }
 
 // The kind that a word names.
@@ -40,7 +39,7 @@ fn kind_of(word: &str) -> Option<Kind> {
     }
 }
 
-// The opening that a line is.
+// The opening that a text is.
 fn read_opening(text: &str) -> Option<Opening> {
     let mut words = text.split(' ');
     if words.next()? != "open" {
@@ -57,27 +56,23 @@ fn read_opening(text: &str) -> Option<Opening> {
     Some(opening)
 }
 
-// The call that the words are.
-fn read_call(words: &mut Words<'_>) -> Option<Call> {
-    Some(match words.next()? {
+// The call that a text is.
+fn read_call(text: &str) -> Option<Call> {
+    let mut words = text.split(' ');
+    let call = match words.next()? {
         "start" => Call::Start,
-        "facet" => Call::Facet(number(words)?, numbers(words)?),
-        "tie" => Call::Tie(number(words)?, number(words)?, number(words)?),
-        "close" => Call::Close(number(words)?),
-        "drop" => Call::Drop(number(words)?),
+        "facet" => Call::Facet(number(&mut words)?, numbers(&mut words)?),
+        "tie" => Call::Tie(
+            number(&mut words)?,
+            number(&mut words)?,
+            number(&mut words)?,
+        ),
+        "close" => Call::Close(number(&mut words)?),
+        "drop" => Call::Drop(number(&mut words)?),
         _ => return None,
-    })
-}
-
-// A call that writes, with its answer.
-fn read_write(call: &str, answer: &str) -> Option<Line> {
-    let mut words = call.split(' ');
-    let call = read_call(&mut words)?;
+    };
     end(&mut words)?;
-    let mut words = answer.split(' ');
-    let reply = Reply::read(&mut words)?;
-    end(&mut words)?;
-    Some(Line::Write(call, reply))
+    Some(call)
 }
 
 // The comparison that a text is.
@@ -92,6 +87,21 @@ fn read_comparison(text: &str) -> Option<Comparison> {
     Some(comparison)
 }
 
+// The answer that the next words are, or none within where they are the number of no refusal.
+fn read_answer(words: &mut Words<'_>) -> Option<Option<Answer>> {
+    Some(match words.next()? {
+        "started" => Some(Answer::Started),
+        "entered" => Some(Answer::Entered(number(words)?)),
+        "filed" => Some(Answer::Filed(number(words)?)),
+        "removed" => Some(Answer::Removed(number(words)?)),
+        "listed" => Some(Answer::Listed(number(words)?, number(words)?)),
+        "refused" => Refusal::try_from(number::<u8>(words)?)
+            .ok()
+            .map(Answer::Refused),
+        _ => return None,
+    })
+}
+
 // The pairs that all words are.
 fn read_pairs(heap: Global, words: Words<'_>) -> Result<Option<Vec<(u32, u32)>>, AllocError> {
     let mut pairs = Vec::new(heap);
@@ -100,27 +110,38 @@ fn read_pairs(heap: Global, words: Words<'_>) -> Result<Option<Vec<(u32, u32)>>,
         let Ok(number) = word.parse::<u32>() else {
             return Ok(None);
         };
-        match first {
+        match first.take() {
             None => first = Some(number),
-            Some(moved) => {
-                pairs.push((moved, number))?;
-                first = None;
-            }
+            Some(moved) => pairs.push((moved, number))?,
         }
     }
-    Ok(if first.is_none() { Some(pairs) } else { None })
+    Ok(first.is_none().then_some(pairs))
+}
+
+// A call that writes, with its answer.
+fn read_write(call: &str, answer: &str) -> Option<Line> {
+    let call = read_call(call)?;
+    let mut words = answer.split(' ');
+    let answer = read_answer(&mut words)?;
+    end(&mut words)?;
+    let due = Due {
+        answer,
+        pairs: None,
+    };
+    Some(Line::Expect(Request::Write(call), due))
 }
 
 // A comparison, with its answer and its pairs.
 fn read_compare(heap: Global, call: &str, answer: &str) -> Result<Option<Line>, AllocError> {
     let mut words = answer.split(' ');
-    let (Some(comparison), Some(reply)) = (read_comparison(call), Reply::read(&mut words)) else {
+    let (Some(comparison), Some(answer)) = (read_comparison(call), read_answer(&mut words)) else {
         return Ok(None);
     };
-    match read_pairs(heap, words)? {
-        Some(pairs) => Ok(Some(Line::Compare(comparison, reply, pairs))),
-        None => Ok(None),
+    let pairs = read_pairs(heap, words)?;
+    if pairs.is_none() {
+        return Ok(None);
     }
+    Ok(Some(Line::Expect(Request::Compare(comparison), Due { answer, pairs })))
 }
 
 // What a line says, where it is well formed.
@@ -130,9 +151,6 @@ pub(crate) fn read_line(heap: Global, text: &str) -> Result<Option<Line>, AllocE
             Some(comparison) => read_compare(heap, comparison, answer),
             None => Ok(read_write(call, answer)),
         },
-        None => match read_opening(text) {
-            Some(opening) => Ok(Some(Line::Open(opening))),
-            None => Ok(None),
-        },
+        None => Ok(read_opening(text).map(Line::Open)),
     }
 }

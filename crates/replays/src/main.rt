@@ -3,7 +3,6 @@
 
 mod history;
 mod line;
-mod reply;
 mod tally;
 mod words;
 
@@ -16,21 +15,15 @@ use tally::Tally;
 fn judge_all(rt: &HostRuntime, tally: &mut Tally) -> anyhow::Result<()> {
     let heap = rt.alloc();
     let mut history: Option<History> = None;
-    let mut number: u64 = 0;
-    for line in BufReader::new(heap, rt.stdin())?.lines(heap) {
+    for (line, number) in BufReader::new(heap, rt.stdin())?.lines(heap).zip(1u64..) {
         let line = line?;
-        number = number.saturating_add(1);
         match (read_line(heap, line.as_str())?, &mut history) {
-            (Some(Line::Open(opening)), _) => {
-                if let Some(last) = &history {
+            (Some(Line::Open(opening)), history) => {
+                if let Some(last) = history.replace(History::new(heap, number, opening)) {
                     last.judge(heap, tally)?;
                 }
-                history = Some(History::new(heap, number, opening));
             }
-            (Some(Line::Write(call, reply)), Some(history)) => history.write(number, call, reply)?,
-            (Some(Line::Compare(comparison, reply, pairs)), Some(history)) => {
-                history.compare(number, comparison, reply, pairs)?
-            }
+            (Some(Line::Expect(request, due)), Some(history)) => history.add(number, request, due)?,
             _ => println!(rt; "line {number} is malformed: {line}")?,
         }
     }

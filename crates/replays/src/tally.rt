@@ -1,24 +1,26 @@
 // What agrees, counted, and what does not.
 ghost use Rattle.std.specs.Prelude.{◌≡◌, vec_len};
 
-use super::reply::Reply;
+use book::Answer;
 use std::alloc::{AllocError, Global};
 use std::fmt;
 
-// What is not as it should be, with the number of its line.
+// What is compared with what is due: the answer of the call of a line, its list, or the places behind the last list of the history that
+// the line opens.
 #[derive(Clone, Copy)]
-pub enum Disagreement {
-    Answer(u64, Reply),
+pub enum Finding {
+    Answer(u64, Answer),
     List(u64),
     Behind(u64),
 }
 
-impl fmt::Display for Disagreement {
+// What the finding says where it does not agree.
+impl fmt::Display for Finding {
     fn fmt<W: fmt::Write>(&self, f: &mut fmt::Formatter<W>) -> fmt::Result {
         match self {
-            Disagreement::Answer(line, found) => write!(f, "line {line} is answered {found}"),
-            Disagreement::List(line) => write!(f, "line {line} has another list"),
-            Disagreement::Behind(line) => {
+            Finding::Answer(line, found) => write!(f, "line {line} is answered {found}"),
+            Finding::List(line) => write!(f, "line {line} has another list"),
+            Finding::Behind(line) => {
                 write!(f, "the history of line {line} writes behind its last list")
             }
         }
@@ -30,7 +32,7 @@ pub struct Tally {
     histories: u64,
     answers: u64,
     lists: u64,
-    pub disagreements: Vec<Disagreement>,
+    pub disagreements: Vec<Finding>,
 }
 
 impl Tally {
@@ -46,38 +48,18 @@ impl Tally {
         }
     }
 
-    // The answer to a call, and the one that is due.
-    pub(crate) fn note_answer(
-        &mut self,
-        line: u64,
-        found: Reply,
-        due: Reply,
-    ) -> Result<(), AllocError> {
-        if found == due {
-            self.answers = self.answers.saturating_add(1);
-        } else {
-            self.disagreements.push(Disagreement::Answer(line, found))?;
+    // One more finding, and whether it agrees. A history agrees where the places behind its last list are as they were.
+    pub(crate) fn note(&mut self, finding: Finding, agrees: bool) -> Result<(), AllocError> {
+        if !agrees {
+            self.disagreements.push(finding)?;
+            return Ok(());
         }
-        Ok(())
-    }
-
-    // Whether the list of a comparison is as it should be.
-    pub(crate) fn note_list(&mut self, line: u64, agrees: bool) -> Result<(), AllocError> {
-        if agrees {
-            self.lists = self.lists.saturating_add(1);
-        } else {
-            self.disagreements.push(Disagreement::List(line))?;
-        }
-        Ok(())
-    }
-
-    // The end of a history, and whether the places behind its last list are as they were.
-    pub(crate) fn note_end(&mut self, line: u64, agrees: bool) -> Result<(), AllocError> {
-        if agrees {
-            self.histories = self.histories.saturating_add(1);
-        } else {
-            self.disagreements.push(Disagreement::Behind(line))?;
-        }
+        let count = match finding {
+            Finding::Answer(_, _) => &mut self.answers,
+            Finding::List(_) => &mut self.lists,
+            Finding::Behind(_) => &mut self.histories,
+        };
+        *count = count.saturating_add(1);
         Ok(())
     }
 }

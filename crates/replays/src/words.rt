@@ -1,4 +1,6 @@
 // Numbers from the words of a line.
+//
+// `histories` has the same few lines: a library with them would have to state the grammar of these test lines as its promise.
 use std::str::{FromStr, Split};
 
 // The words that are still to be read of a line, or of a part of one.
@@ -15,16 +17,13 @@ where
 // The numbers that the next words are.
 pub(crate) fn numbers<const N: usize>(words: &mut Words<'_>) -> Option<[i64; N]> {
     let mut numbers = [0; N];
-    for i in 0..N {
-        numbers[i] = number(words)?;
+    for place in &mut numbers {
+        *place = number(words)?;
     }
     Some(numbers)
 }
 
 // No word is left.
 pub(crate) fn end(words: &mut Words<'_>) -> Option<()> {
-    match words.next() {
-        Some(_) => None,
-        None => Some(()),
-    }
+    words.next().is_none().then_some(())
 }
