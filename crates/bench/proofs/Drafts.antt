@@ -1,5 +1,5 @@
 -- A draft stays its register's until close or drop spends it.
-use Rattle.std.proofs.Common.{◌≡◌, ℕ, Bool, true, false, cond, not, eqb, ltb, List, [], ◌∷◌, length, ℤ, is_some, Some, None, sym, refl, ap, ◌∙◌, subst, arith}
+use Rattle.std.proofs.Common.{◌≡◌, ℕ, Bool, true, false, true≢false, cond, not, eqb, ltb, List, [], ◌∷◌, length, ℤ, is_some, Some, None, Result, Ok, Err, IsOk, sym, refl, ap, ◌∙◌, subst, arith}
 use Rattle.std.proofs.lemmas.Bool.{and_parts, eq-eqb}
 use Rattle.book.specs.declared.call.Call.{Call}
 use Rattle.book.specs.declared.call.Call.TheVariants as call
@@ -10,6 +10,8 @@ use Rattle.book.specs.declared.refusal.Refusal.TheVariants.{DraftOpen, ObjectsFu
 use Rattle.book.specs.Refusals.{number}
 use Rattle.book.specs.Limits.{object_limit}
 use Rattle.book.specs.Trees.{untied}
+use Rattle.register.specs.declared.draft.Draft.{Draft}
+use Rattle.register.specs.Registers.{removed}
 use Rattle.book.specs.Books.{Book, written, here, questions, first_no, turned, taken, decided, outcome, Said}
 
 -- no question here loses the draft
@@ -28,16 +30,13 @@ after_call P b c (q ∷ qs) mild p t =
     ]
 
 module _ (b after : Book) where
-  not_refused : (why : Refusal) → answer.Started ≡ answer.Refused why → ⊥
-  not_refused why e = let z : ◌≡◌ {A = ℕ} 0 1 = cc in omega arith
-
   start_by : (x y : Bool) → answer.Started ≡ (decided b call.Start (cond x (cond y None (Some ObjectsFull)) (Some DraftOpen))).answer
       → here (decided b call.Start (cond x (cond y None (Some ObjectsFull)) (Some DraftOpen))).next b.mark ≡ true
   unfolding here
   start_by true true e = eq-eqb b.mark b.mark refl
-  start_by true false e = absurd (not_refused ObjectsFull e)
-  start_by false true e = absurd (not_refused DraftOpen e)
-  start_by false false e = absurd (not_refused DraftOpen e)
+  start_by true false e = cc
+  start_by false true e = cc
+  start_by false false e = cc
 
   -- a draft that is handed out is the register's
   pub start_here : Said b call.Start answer.Started after → here after b.mark ≡ true
@@ -49,34 +48,36 @@ module _ (b after : Book) where
     unfolding here
     marked = (and_parts (is_some b.page) (eqb m b.mark) h).1
 
-    -- it stays so when a facet or a tie is entered or refused
+    -- it stays so at a call that has no question which loses it, and does not spend it
+    stays : (c : Call) (a : Answer) → Mild (questions b c) → here (taken b c).next m ≡ true → Said b c a after → here after m ≡ true
+    unfolding outcome
+    stays c a mild after_taken s =
+        subst (λ x. here x m ≡ true) (sym s.book) (after_call (λ x. here x m ≡ true) b c (questions b c) mild h after_taken)
+
+    -- so when a facet or a tie is entered or refused
     pub facet_here : (n : List ℤ) (a : Answer) → Said b (call.Facet m n) a after → here after m ≡ true
-    unfolding here outcome Mild
-    facet_here n a s =
-        subst (λ x. here x m ≡ true) (sym s.book)
-        (after_call (λ x. here x m ≡ true) b (call.Facet m n) (questions b (call.Facet m n)) (refl, (refl, (refl, tt))) h marked)
+    unfolding here Mild
+    facet_here n a = stays (call.Facet m n) a (refl, (refl, (refl, tt))) marked
 
     pub tie_here : (x y : ℤ) (a : Answer) → Said b (call.Tie m x y) a after → here after m ≡ true
-    unfolding here outcome Mild
-    tie_here x y a s =
-        subst (λ x. here x m ≡ true) (sym s.book)
-        (after_call (λ x. here x m ≡ true) b (call.Tie m x y) (questions b (call.Tie m x y)) (refl, (refl, (refl, (refl, tt)))) h marked)
+    unfolding here Mild
+    tie_here x y a = stays (call.Tie m x y) a (refl, (refl, (refl, (refl, tt)))) marked
 
-    close_by : (t : Bool) → answer.Refused NotThisDraft ≡ (decided b (call.Close m) (cond t None (Some PartsLeftOver))).answer → ⊥
-    close_by true e = let z : ◌≡◌ {A = ℕ} 0 1 = cc in omega arith
-    close_by false e = let z : ◌≡◌ {A = ℕ} 0 1 = cc in omega arith
+    close_by : (t : Bool) → answer.Refused NotThisDraft ≡ (decided b (call.Close m) (cond t None (Some PartsLeftOver))).answer → true ≡ false
+    close_by true e = cc
+    close_by false e = cc
 
     -- close does not take it for another register's
     pub close_here : Said b (call.Close m) (answer.Refused NotThisDraft) after → ⊥
     unfolding outcome
     close_here s =
         let one = eqb (untied (written b.page)) 1 in
-        close_by one (s.answer ∙ ap (λ v. (decided b (call.Close m) (cond v (cond one None (Some PartsLeftOver)) (Some NotThisDraft))).answer) h)
+        true≢false (close_by one (s.answer ∙ ap (λ v. (decided b (call.Close m) (cond v (cond one None (Some PartsLeftOver)) (Some NotThisDraft))).answer) h))
 
     -- drop does not refuse it
-    pub drop_here : (why : Refusal) → Said b (call.Drop m) (answer.Refused why) after → ⊥
+    pub drop_here : (r : Result ℕ (Draft × Refusal)) → Said b (call.Drop m) (removed r) after → IsOk r
     unfolding outcome
-    drop_here why s =
-        let e : answer.Refused why ≡ (taken b (call.Drop m)).answer = s.answer ∙ ap (λ v. (decided b (call.Drop m) (cond v None (Some NotThisDraft))).answer) h in
-        let z : ◌≡◌ {A = ℕ} 0 1 = cc in
-        omega arith
+    drop_here (Ok n) s = refl
+    drop_here (Err back) s =
+        let e : answer.Refused back.1 ≡ (taken b (call.Drop m)).answer = s.answer ∙ ap (λ v. (decided b (call.Drop m) (cond v None (Some NotThisDraft))).answer) h in
+        cc

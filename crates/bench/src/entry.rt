@@ -8,36 +8,52 @@ use book::Refusal;
 use hull::Hull;
 use register::{Draft, Register, Unclosed};
 
-// Enters facets, up to the first that is refused. The draft stays the register's.
-fn enter_facets<H: Hull>(
-    register: &mut Register<'_, H>,
-    mut draft: Draft,
-    facets: &[[i64; 9]],
-) -> (Draft, Result<(), Refusal>)
-    requires { here (book_of register.old) draft.mark ≡ true }
-    ensures { here (book_of register.new) result.0.mark ≡ true }
-{
-    for numbers in facets {
-        let (same, answer) = draft.facet(register, *numbers);
-        draft = same;
-        if let Err(why) = answer {
-            return (draft, Err(why));
-        }
-    }
-    (draft, Ok(()))
+// The numbers of an item.
+pub trait Row: Copy {
+    // Enters the item. The draft stays the register's.
+    fn enter<H: Hull>(
+        self,
+        register: &mut Register<'_, H>,
+        draft: Draft,
+    ) -> (Draft, Result<u32, Refusal>)
+        requires { here (book_of register.old) draft.mark ≡ true }
+        ensures { here (book_of register.new) result.0.mark ≡ true };
 }
 
-// Enters ties, up to the first that is refused. The draft stays the register's.
-fn enter_ties<H: Hull>(
+// Nine numbers are a facet.
+impl Row for [i64; 9] {
+    fn enter<H: Hull>(
+        self,
+        register: &mut Register<'_, H>,
+        draft: Draft,
+    ) -> (Draft, Result<u32, Refusal>) {
+        draft.facet(register, self)
+    }
+}
+
+// Two numbers are a tie.
+impl Row for [i64; 2] {
+    fn enter<H: Hull>(
+        self,
+        register: &mut Register<'_, H>,
+        draft: Draft,
+    ) -> (Draft, Result<u32, Refusal>) {
+        let [x, y] = self;
+        draft.tie(register, x, y)
+    }
+}
+
+// Enters the items of the rows, up to the first that is refused. The draft stays the register's.
+fn enter_rows<H: Hull, R: Row>(
     register: &mut Register<'_, H>,
     mut draft: Draft,
-    ties: &[[i64; 2]],
+    rows: &[R],
 ) -> (Draft, Result<(), Refusal>)
     requires { here (book_of register.old) draft.mark ≡ true }
     ensures { here (book_of register.new) result.0.mark ≡ true }
 {
-    for [x, y] in ties {
-        let (same, answer) = draft.tie(register, *x, *y);
+    for row in rows {
+        let (same, answer) = row.enter(register, draft);
         draft = same;
         if let Err(why) = answer {
             return (draft, Err(why));
@@ -52,10 +68,8 @@ fn file<H: Hull>(register: &mut Register<'_, H>, draft: Draft) -> Result<u32, Re
 {
     match draft.close(register) {
         Ok(number) => Ok(number),
-        Err(unclosed) => match unclosed {
-            Unclosed::PartsLeftOver => Err(Refusal::PartsLeftOver),
-            Unclosed::NotThisDraft(_draft) => unreachable(),
-        },
+        Err(Unclosed::PartsLeftOver) => Err(Refusal::PartsLeftOver),
+        Err(Unclosed::NotThisDraft(_draft)) => unreachable!(),
     }
 }
 
@@ -63,10 +77,7 @@ fn file<H: Hull>(register: &mut Register<'_, H>, draft: Draft) -> Result<u32, Re
 fn discard<H: Hull>(register: &mut Register<'_, H>, draft: Draft)
     requires { here (book_of register.old) draft.mark ≡ true }
 {
-    match draft.drop(register) {
-        Ok(_) => {}
-        Err(_back) => unreachable(),
-    }
+    draft.drop(register).unwrap();
 }
 
 // Enters an object, and answers its number.
@@ -75,11 +86,11 @@ pub(crate) fn enter<H: Hull>(
     piece: &Piece,
 ) -> Result<u32, Refusal> {
     let draft = register.start()?;
-    let (draft, facets) = enter_facets(register, draft, piece.facets.as_slice());
-    let (draft, ties) = enter_ties(register, draft, piece.ties.as_slice());
-    match (facets, ties) {
-        (Ok(()), Ok(())) => file(register, draft),
-        (Err(why), _) | (_, Err(why)) => {
+    let (draft, facets) = enter_rows(register, draft, piece.facets.as_slice());
+    let (draft, ties) = enter_rows(register, draft, piece.ties.as_slice());
+    match facets.and(ties) {
+        Ok(()) => file(register, draft),
+        Err(why) => {
             discard(register, draft);
             Err(why)
         }

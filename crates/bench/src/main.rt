@@ -11,7 +11,7 @@ mod query;
 mod stop;
 mod words;
 
-use anyhow::anyhow;
+use anyhow::{Context, bail};
 use ball::BallHull;
 use book::{Comparison, Item};
 use entry::enter_both;
@@ -34,46 +34,33 @@ struct Order {
 }
 
 fn read_order(rt: &HostRuntime) -> anyhow::Result<Order> {
-    let mut args = env::args(rt)?;
-    let _program = args.next();
-    let Some(path) = args.next() else {
-        return Err(anyhow!("name a file"));
-    };
-    let is_timed = match args.next() {
-        Some(word) => {
-            if word.as_str() != "time" {
-                return Err(anyhow!("only the word time may follow the file"));
-            }
-            true
-        }
+    let mut args = env::args(rt)?.skip(1);
+    let path = args.next().context("name a file")?;
+    let is_timed = match args.next().as_deref() {
         None => false,
+        Some("time") => true,
+        Some(_) => bail!("only the word time may follow the file"),
     };
     Ok(Order { path, is_timed })
 }
 
 // A place with a hull of the kind.
-fn some_place<H: Hull>() -> Option<Place<H>> {
-    let corner = Corner::new(0, 0, 0)?;
-    Some(Place {
+fn some_place<H: Hull>() -> Place<H> {
+    let corner = Corner::new(0, 0, 0).unwrap();
+    Place {
         item: Item::Tie(0, 0),
         height: 0,
         tied: false,
         hull: H::first(corner),
-    })
+    }
 }
 
 // Enters the objects and compares them at each placement.
 fn run_kind<H: Hull + Clone>(rt: &HostRuntime, job: &Job, is_timed: bool) -> anyhow::Result<()> {
-    let Some(place) = some_place::<H>() else {
-        return Ok(());
-    };
-    let mut table = vec![in rt.alloc(); place; PLACES]?;
+    let mut table = vec![in rt.alloc(); some_place::<H>(); PLACES]?;
     let mut list = Vec::new(rt.alloc());
     let mut register = Register::open(0, table.as_mut_slice());
-    let (moved, standing) = match enter_both(&mut register, job) {
-        Ok(numbers) => numbers,
-        Err(why) => return Err(Stop::from(why).into()),
-    };
+    let (moved, standing) = enter_both(&mut register, job).map_err(Stop::from)?;
     for (number, placement) in job.placements.iter().enumerate() {
         let order = Comparison {
             moved,

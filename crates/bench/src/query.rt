@@ -107,9 +107,8 @@ pub(crate) fn find<H: Hull>(
             list.resize(room, (0, 0))?;
         }
         match compare(register, order, list.as_mut_slice()) {
-            Ok(found) => return Ok(found),
             Err(Refusal::ListFull) => {}
-            Err(why) => return Err(Stop::from(why)),
+            found => return found.map_err(Stop::from),
         }
     }
     Err(Stop::from(Refusal::ListFull))
@@ -125,10 +124,8 @@ pub(crate) fn measure<H: Hull>(
     let mut timing = Timing::new();
     for _ in 0..MOST_TURNS {
         let start = Instant::now(clock)?;
-        match compare(register, order, list) {
-            Ok(found) => timing.add(found, start.elapsed(clock)?),
-            Err(why) => return Err(Stop::from(why).into()),
-        }
+        let found = compare(register, order, list).map_err(Stop::from)?;
+        timing.add(found, start.elapsed(clock)?);
         if timing.is_enough() {
             break;
         }

@@ -8,8 +8,8 @@ use std::fmt;
 pub enum Stop {
     // a word of the file, counted from 1, is missing or not the one that is due
     Malformed(u64),
-    // the register refuses, by the number of the refusal
-    Refused(u8),
+    // the register refuses
+    Refused(Refusal),
     OutOfMemory,
 }
 
@@ -20,7 +20,7 @@ impl fmt::Display for Stop {
                 f,
                 "word {word} of the file is not the one that is due"
             ),
-            Stop::Refused(number) => write!(f, "the register refuses with {number}"),
+            Stop::Refused(why) => write!(f, "the register refuses with {why}"),
             Stop::OutOfMemory => f.write_str("there is not enough memory"),
         }
     }
@@ -30,7 +30,7 @@ impl Error for Stop {}
 
 impl From<Refusal> for Stop {
     fn from(why: Refusal) -> Stop {
-        Stop::Refused(why.number())
+        Stop::Refused(why)
     }
 }
 

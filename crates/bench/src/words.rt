@@ -35,17 +35,15 @@ impl<'a> Words<'a> {
 
     // A number is due.
     pub(crate) fn number(&mut self) -> Result<i64, Stop> {
-        match self.word()?.parse::<i64>() {
-            Ok(number) => Ok(number),
-            Err(_) => Err(Stop::Malformed(self.taken)),
-        }
+        let number = self.word()?.parse::<i64>();
+        number.map_err(|_| Stop::Malformed(self.taken))
     }
 
     // So many numbers are due.
     pub(crate) fn numbers<const N: usize>(&mut self) -> Result<[i64; N], Stop> {
         let mut numbers = [0; N];
-        for i in 0..N {
-            numbers[i] = self.number()?;
+        for place in &mut numbers {
+            *place = self.number()?;
         }
         Ok(numbers)
     }

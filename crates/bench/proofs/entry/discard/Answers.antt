@@ -2,6 +2,6 @@ use Rattle.register.specs.Registers.{book_of}
 use Rattle.bench.proofs.Drafts.{drop_here}
 use Rattle.bench.proofs.entry.discard.Goals as goal
 
-pub unreachable-requires : goal.unreachable-requires
-unreachable-requires g c =
-    drop_here (book_of c.args.register.now) _ c.args.draft.mark c.requires _ c.in-Err.ensures.said
+pub unwrap-requires : goal.unwrap-requires
+unwrap-requires g c =
+    drop_here (book_of c.args.register.now) _ c.args.draft.mark c.requires c.drop.result c.drop.ensures.said
