@@ -1,5 +1,5 @@
 -- A draft stays its register's until close or drop spends it.
-use Rattle.std.proofs.Common.{◌≡◌, ℕ, Bool, true, false, true≢false, cond, not, eqb, ltb, List, [], ◌∷◌, length, ℤ, is_some, Some, None, Result, Ok, Err, IsOk, sym, refl, ap, ◌∙◌, subst, arith}
+use Rattle.std.proofs.Common.{◌≡◌, ℕ, Bool, true, false, true≢false, cond, not, eqb, ltb, List, [], ◌∷◌, length, ℤ, is_some, Some, None, Result, Ok, Err, IsOk, sym, refl, ap, ◌∙◌, subst}
 use Rattle.std.proofs.lemmas.Bool.{and_parts, eq-eqb}
 use Rattle.book.specs.declared.call.Call.{Call}
 use Rattle.book.specs.declared.call.Call.TheVariants as call

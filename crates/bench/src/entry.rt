@@ -21,6 +21,7 @@ pub trait Row: Copy {
 }
 
 // Nine numbers are a facet.
+#[tactic(auto, using(crate::proofs::Drafts::facet_here))]
 impl Row for [i64; 9] {
     fn enter<H: Hull>(
         self,
@@ -32,6 +33,7 @@ impl Row for [i64; 9] {
 }
 
 // Two numbers are a tie.
+#[tactic(auto, using(crate::proofs::Drafts::tie_here))]
 impl Row for [i64; 2] {
     fn enter<H: Hull>(
         self,
@@ -81,6 +83,7 @@ fn discard<H: Hull>(register: &mut Register<'_, H>, draft: Draft)
 }
 
 // Enters an object, and answers its number.
+#[tactic(auto, using(crate::proofs::Drafts::start_here))]
 pub(crate) fn enter<H: Hull>(
     register: &mut Register<'_, H>,
     piece: &Piece,
