@@ -11,7 +11,9 @@ use Rattle.book.specs.Refusals.{number}
 use Rattle.book.specs.Limits.{object_limit}
 use Rattle.book.specs.Trees.{untied}
 use Rattle.register.specs.declared.draft.Draft.{Draft}
-use Rattle.register.specs.Registers.{removed}
+use Rattle.register.specs.declared.draft.Unclosed.{Unclosed}
+use Rattle.register.specs.declared.draft.Unclosed.TheVariants as unclosed
+use Rattle.register.specs.Registers.{filed, removed}
 use Rattle.book.specs.Books.{Book, written, here, questions, first_no, turned, taken, decided, outcome, Said}
 
 -- no question here loses the draft
@@ -67,12 +69,12 @@ module _ (b after : Book) where
     close_by true e = cc
     close_by false e = cc
 
-    -- close does not take it for another register's
-    pub close_here : Said b (call.Close m) (answer.Refused NotThisDraft) after → ⊥
+    -- close does not give it back
+    pub close_here : (r : Result ℕ Unclosed) (back : Draft) → r ≡ Err (unclosed.NotThisDraft back) → Said b (call.Close m) (filed r) after → ⊥
     unfolding outcome
-    close_here s =
+    close_here r back e s =
         let one = eqb (untied (written b.page)) 1 in
-        true≢false (close_by one (s.answer ∙ ap (λ v. (decided b (call.Close m) (cond v (cond one None (Some PartsLeftOver)) (Some NotThisDraft))).answer) h))
+        true≢false (close_by one (sym (ap filed e) ∙ s.answer ∙ ap (λ v. (decided b (call.Close m) (cond v (cond one None (Some PartsLeftOver)) (Some NotThisDraft))).answer) h))
 
     -- drop does not refuse it
     pub drop_here : (r : Result ℕ (Draft × Refusal)) → Said b (call.Drop m) (removed r) after → IsOk r

@@ -8,95 +8,88 @@ use book::Refusal;
 use hull::Hull;
 use register::{Draft, Register, Unclosed};
 
+// A draft, and the register whose draft it stays until it is closed or dropped.
+pub struct Entry<'r, 't, H: Hull> {
+    register: &'r mut Register<'t, H>,
+    draft: Draft,
+    ghost kept: { here (book_of register.now) draft.mark ≡ true },
+}
+
 // The numbers of an item.
 pub trait Row: Copy {
-    // Enters the item. The draft stays the register's.
-    fn enter<H: Hull>(
+    // Enters the item, and answers its number.
+    fn enter<'r, 't, H: Hull>(
         self,
-        register: &mut Register<'_, H>,
-        draft: Draft,
-    ) -> (Draft, Result<u32, Refusal>)
-        requires { here (book_of register.old) draft.mark ≡ true }
-        ensures { here (book_of register.new) result.0.mark ≡ true };
+        entry: Entry<'r, 't, H>,
+    ) -> (Entry<'r, 't, H>, Result<u32, Refusal>);
 }
 
 // Nine numbers are a facet.
 #[tactic(auto, using(crate::proofs::Drafts::facet_here))]
 impl Row for [i64; 9] {
-    fn enter<H: Hull>(
+    fn enter<'r, 't, H: Hull>(
         self,
-        register: &mut Register<'_, H>,
-        draft: Draft,
-    ) -> (Draft, Result<u32, Refusal>) {
-        draft.facet(register, self)
+        entry: Entry<'r, 't, H>,
+    ) -> (Entry<'r, 't, H>, Result<u32, Refusal>) {
+        let Entry { register, draft } = entry;
+        let (draft, answer) = draft.facet(register, self);
+        (Entry { register, draft }, answer)
     }
 }
 
 // Two numbers are a tie.
 #[tactic(auto, using(crate::proofs::Drafts::tie_here))]
 impl Row for [i64; 2] {
-    fn enter<H: Hull>(
+    fn enter<'r, 't, H: Hull>(
         self,
-        register: &mut Register<'_, H>,
-        draft: Draft,
-    ) -> (Draft, Result<u32, Refusal>) {
+        entry: Entry<'r, 't, H>,
+    ) -> (Entry<'r, 't, H>, Result<u32, Refusal>) {
+        let Entry { register, draft } = entry;
         let [x, y] = self;
-        draft.tie(register, x, y)
+        let (draft, answer) = draft.tie(register, x, y);
+        (Entry { register, draft }, answer)
     }
 }
 
-// Enters the items of the rows, up to the first that is refused. The draft stays the register's.
-fn enter_rows<H: Hull, R: Row>(
-    register: &mut Register<'_, H>,
-    mut draft: Draft,
-    rows: &[R],
-) -> (Draft, Result<(), Refusal>)
-    requires { here (book_of register.old) draft.mark ≡ true }
-    ensures { here (book_of register.new) result.0.mark ≡ true }
-{
-    for row in rows {
-        let (same, answer) = row.enter(register, draft);
-        draft = same;
-        if let Err(why) = answer {
-            return (draft, Err(why));
+impl<'r, 't, H: Hull> Entry<'r, 't, H> {
+    // Opens a draft.
+    #[tactic(auto, using(crate::proofs::Drafts::start_here))]
+    fn start(register: &'r mut Register<'t, H>) -> Result<Entry<'r, 't, H>, Refusal> {
+        let draft = register.start()?;
+        Ok(Entry { register, draft })
+    }
+
+    // Enters the items of the rows, up to the first that is refused.
+    fn rows<R: Row>(self, rows: &[R]) -> (Entry<'r, 't, H>, Result<(), Refusal>) {
+        let mut entry = self;
+        for row in rows {
+            let (same, answer) = row.enter(entry);
+            entry = same;
+            if let Err(why) = answer {
+                return (entry, Err(why));
+            }
         }
-    }
-    (draft, Ok(()))
-}
-
-// Files the draft as an object, and answers its number.
-fn file<H: Hull>(register: &mut Register<'_, H>, draft: Draft) -> Result<u32, Refusal>
-    requires { here (book_of register.old) draft.mark ≡ true }
-{
-    match draft.close(register) {
-        Ok(number) => Ok(number),
-        Err(Unclosed::PartsLeftOver) => Err(Refusal::PartsLeftOver),
-        Err(Unclosed::NotThisDraft(_draft)) => unreachable!(),
+        (entry, Ok(()))
     }
 }
 
-// Throws the draft away.
-fn discard<H: Hull>(register: &mut Register<'_, H>, draft: Draft)
-    requires { here (book_of register.old) draft.mark ≡ true }
-{
-    draft.drop(register).unwrap();
-}
-
-// Enters an object, and answers its number.
-#[tactic(auto, using(crate::proofs::Drafts::start_here))]
+// Enters an object, and answers its number. Where an item is refused, the draft is thrown away.
 pub(crate) fn enter<H: Hull>(
     register: &mut Register<'_, H>,
     piece: &Piece,
 ) -> Result<u32, Refusal> {
-    let draft = register.start()?;
-    let (draft, facets) = enter_rows(register, draft, piece.facets.as_slice());
-    let (draft, ties) = enter_rows(register, draft, piece.ties.as_slice());
-    match facets.and(ties) {
-        Ok(()) => file(register, draft),
-        Err(why) => {
-            discard(register, draft);
-            Err(why)
-        }
+    let entry = Entry::start(register)?;
+    let (entry, facets) = entry.rows(piece.facets.as_slice());
+    let (entry, ties) = entry.rows(piece.ties.as_slice());
+    let Entry { register, draft } = entry;
+    if let Err(why) = facets.and(ties) {
+        draft.drop(register).unwrap();
+        return Err(why);
+    }
+    match draft.close(register) {
+        Ok(number) => Ok(number),
+        Err(Unclosed::PartsLeftOver) => Err(Refusal::PartsLeftOver),
+        Err(Unclosed::NotThisDraft(_draft)) => unreachable!(),
     }
 }
 

@@ -44,7 +44,7 @@ fn read_order(rt: &HostRuntime) -> anyhow::Result<Order> {
     Ok(Order { path, is_timed })
 }
 
-// A place with a hull of the kind.
+// A place with a hull of the kind. A library that makes one for all programs would have to promise what it holds.
 fn some_place<H: Hull>() -> Place<H> {
     let corner = Corner::new(0, 0, 0).unwrap();
     Place {

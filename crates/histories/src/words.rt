@@ -1,6 +1,4 @@
 // Numbers from the words of a line.
-//
-// `replays` has the same few lines: a library with them would have to state the grammar of these test lines as its promise.
 use std::str::{FromStr, Split};
 
 // The words that are still to be read of a line, or of a part of one.

@@ -1,4 +1,7 @@
 // One line: the opening of a history, or a call with all that is due to it.
+//
+// `histories` reads its lines likewise, and numbers by the same few functions: a library of both would have to promise what the grammar of
+// these test lines is.
 use super::words::{Words, end, number, numbers};
 use book::{Answer, Call, Comparison, Refusal, Request};
 use jobtext::Kind;
