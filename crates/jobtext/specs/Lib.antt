@@ -1,3 +1,5 @@
+pub mod Due
+pub mod Faults
 pub mod Forms
 pub mod Fronts
 pub mod Jobs

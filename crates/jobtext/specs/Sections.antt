@@ -16,6 +16,15 @@ opening Facets2 = codes "facets"
 opening Ties2 = codes "ties"
 opening Placements = codes "placements"
 
+-- the name of a section in a report
+abbrev pub name : Section → Word
+name KindSection = codes "kind"
+name Facets = codes "facets"
+name Ties = codes "ties"
+name Facets2 = codes "facets2"
+name Ties2 = codes "ties2"
+name Placements = codes "placements"
+
 -- the word for a kind
 abbrev pub kind_word_lem : Kind → Word
 kind_word_lem kind.Box = codes "box"

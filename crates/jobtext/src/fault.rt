@@ -1,4 +1,7 @@
 // What can be wrong with the words of a job, and where.
+ghost use Rattle.std.specs.Prelude.{◌≡◌};
+ghost use Rattle.jobtext.specs.Faults.{flaw_number};
+
 use super::section::Section;
 
 // A word of a section. The section's name is word 1.
@@ -20,4 +23,16 @@ pub enum Flaw {
 pub struct Fault {
     pub flaw: Flaw,
     pub blame: Blame,
+}
+
+impl Flaw {
+    // The number of the flaw in a report.
+    pub fn number(self) -> u8
+        ensures { result ≡ flaw_number self }
+    {
+        match self {
+            Flaw::WrongWord => 12,
+            Flaw::WrongLength => 13,
+        }
+    }
 }

@@ -4,7 +4,9 @@
 mod fault;
 mod kind;
 mod section;
+mod text;
 
 pub use fault::{Blame, Fault, Flaw};
 pub use kind::Kind;
 pub use section::Section;
+pub use text::is_text;
