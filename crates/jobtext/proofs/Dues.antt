@@ -1,6 +1,8 @@
 -- The word that is due, and the numbers that are due.
-use Rattle.std.proofs.Common.{◌≡◌, ℕ, suc, ◌+◌, List, [], ◌∷◌, ◌++◌, ℤ, IfOk, Some, None, Ok, Err, Option, Result, sym, refl, ap, ◌∙◌, subst, append_assoc, append-nil}
+use Rattle.std.proofs.Common.{◌≡◌, ℕ, suc, ◌+◌, ◌<◌, List, [], ◌∷◌, ◌++◌, length, take, ℤ, IfOk, Some, None, Ok, Err, Option, Result, sym, refl, ap, ◌∙◌, subst, append_assoc, append-nil}
 use mathlib.Core.Path.{transport}
+use Rattle.std.proofs.lemmas.List.{take_more_set}
+use Rattle.std.proofs.Math.ListN.{set}
 use Rattle.std.specs.Option.{ok_or}
 use Rattle.jobtext.specs.declared.fault.Fault.{Fault}
 use Rattle.jobtext.specs.declared.fault.Flaw.TheVariants.{WrongWord, WrongLength}
@@ -86,3 +88,11 @@ module _ (s : Section) (k : ℕ) (ws : List Word) (xs : List ℤ) where
   unfolding numbers
   numbers_done n none =
       ap (λ i. fronted xs (numbers i s k ws)) none ∙ ap (λ (zs : List ℤ). Ok (zs, ws)) (append-nil xs)
+
+-- one more number is written to its place in a row
+pub numbers_step : (s t : Section) (k m n p i : ℕ) (ws left : List Word) (row : List ℤ) (x z : ℤ) (all : Read (List ℤ)) → i < length row → n ≡ suc p → x ≡ z → t ≡ s → m ≡ k + 1 → due number_of s (k + 1) ws ≡ Ok (z, left) → fronted (take i row) (numbers n s k ws) ≡ all → fronted (take (i + 1) (set row i x)) (numbers p t m left) ≡ all
+numbers_step s t k m n p i ws left row x z all inside less same section taken told whole =
+    (λ j. fronted (longer j) (numbers p (section j) (taken j) left)) ∙ sym (numbers_more s k ws (take i row) n p z left less told) ∙ whole
+  where
+    longer : take (i + 1) (set row i x) ≡ take i row ++ (z ∷ [])
+    longer = take_more_set row i x inside ∙ ap (λ y. take i row ++ (y ∷ [])) same

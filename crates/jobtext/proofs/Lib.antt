@@ -4,4 +4,5 @@ pub mod Fronts
 pub mod Meaning
 pub mod Numerals
 pub mod Rows
+pub mod Told
 pub mod Writing

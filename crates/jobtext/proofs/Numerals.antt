@@ -12,7 +12,7 @@ use Rattle.std.proofs.lemmas.Bool.{cases_Bool, eqb-true, and_from, and_left, and
 use Rattle.std.proofs.lemmas.Bool.Decides.{nat_tests}
 use Rattle.jobtext.specs.Numbers.{is_count, count_of, negative, digits, signed, number_of}
 
-by_tests : IsNumeralModel (λ ds. all_ascii_digits ds ≡ true) (digits_value 10)
+pub by_tests : IsNumeralModel (λ ds. all_ascii_digits ds ≡ true) (digits_value 10)
 by_tests = numerals_by_value _ tells_all_ascii_digits
 
 digit_value : (c : ℕ) → IsInRange 48 57 c → digitValue c ≡ c - 48
@@ -33,7 +33,7 @@ unfolding count_of
 is_count_lem w some few all =
     cond-true (is_count w) _ _ (and_from _ _ (lt-ltb 0 (length w) some) (and_from _ _ (le-leb (length w) 10 few) (by_tests.from w all)))
 
-no_count : (w : List ℕ) → is_count w ≡ false → count_of w ≡ None
+pub no_count : (w : List ℕ) → is_count w ≡ false → count_of w ≡ None
 unfolding count_of
 no_count w e = cond-false (is_count w) _ _ e
 

@@ -2,6 +2,7 @@
 use Rattle.std.proofs.Common.{◌≡◌, ℕ, List, [], ◌∷◌, ◌++◌, map, Ok, Err, Result, sym, refl, ap, ◌∙◌, subst, append_assoc, append-nil}
 use mathlib.Core.Path.{transport}
 use Rattle.std.proofs.lemmas.List.{map-append}
+use Rattle.std.specs.declared.alloc.AllocError.{AllocError}
 use Rattle.book.specs.declared.call.Request.{Request}
 use Rattle.jobtext.specs.declared.fault.Blame.{Blame}
 use Rattle.jobtext.specs.declared.fault.Fault.{Fault}
@@ -37,8 +38,8 @@ module _ (t : Stretch) (a b : Entries) where
       subst (λ v. Ran t a b v left) (sym (made ∙ ap Err same)) (subst (λ (u : Stretch). Ran u a b (Err (Faulty e)) left) (sym told) (record { outcome = (grown, refl) }))
 
   -- there is no memory
-  pub ran_out : (r : Result (Unit {0}) Stop) (left : List Word) (y : Stop) → r ≡ Err y → y ≡ OutOfMemory → Ran t a b r left
-  ran_out r left y made same = subst (λ v. Ran t a b v left) (sym (made ∙ ap Err same)) (record { outcome = tt })
+  pub ran_out : (r : Result (Unit {0}) Stop) (left : List Word) (y : Stop) (x : AllocError) → r ≡ Err y → y ≡ OutOfMemory x → Ran t a b r left
+  ran_out r left y x made same = subst (λ v. Ran t a b v left) (sym (made ∙ ap Err same)) (record { outcome = tt })
 
 -- requests before a stretch
 pub before_ran : (a b c : Entries) (es : List Entry) (t : Stretch) (r : Result (Unit {0}) Stop) (left : List Word) → Grown a b es → Ran t b c r left → Ran (before es t) a c r left
@@ -47,7 +48,7 @@ before_ran a b c es t r left g ran = record { outcome = longer r ran.outcome }
     longer : (r : Result (Unit {0}) Stop) → Outcome t b c r left → Outcome (before es t) a c r left
     longer (Ok u) h = (grown_more a b c es t.entries g h.0, h.1)
     longer (Err (Faulty e)) h = (grown_more a b c es t.entries g h.0, h.1)
-    longer (Err OutOfMemory) h = tt
+    longer (Err (OutOfMemory x)) h = tt
 
 pub asked_ran : (a b c : Entries) (q : Request) (s : Section) (k : ℕ) (t : Stretch) (r : Result (Unit {0}) Stop) (left : List Word) → Grown a b (asked_at s k q ∷ []) → Ran t b c r left → Ran (asked q s k t) a c r left
 unfolding asked
@@ -59,8 +60,8 @@ grown_at a b q l s s' k k' at same equal g =
     subst (λ (x : Blame). Grown a b (record { request = q; blame = x } ∷ [])) (at ∙ (λ i. record { section = same i; word = equal i })) g
 
 -- rows after the word that was taken last
-pub rows_at : (f : Form) (n : ℕ) (ws : List Word) (a b : Entries) (r : Result (Unit {0}) Stop) (left : List Word) (s s' : Section) (k k' : ℕ) → s' ≡ s → k' ≡ k → Ran (rows f n s' k' ws) a b r left → Ran (rows f n s k ws) a b r left
-rows_at f n ws a b r left s s' k k' same equal ran = transport (λ i. Ran (rows f n (same i) (equal i) ws) a b r left) ran
+pub rows_at : (f : Form) (n : ℕ) (ws ws' : List Word) (a b : Entries) (r : Result (Unit {0}) Stop) (left : List Word) (s s' : Section) (k k' : ℕ) → s' ≡ s → k' ≡ k → ws' ≡ ws → Ran (rows f n s' k' ws') a b r left → Ran (rows f n s k ws) a b r left
+rows_at f n ws ws' a b r left s s' k k' same equal before ran = transport (λ i. Ran (rows f n (same i) (equal i) (before i)) a b r left) ran
 
 -- what follows from what is read
 module _ {X : Type 0} (d : Read X) (go : X → List Word → Stretch) where
@@ -87,4 +88,4 @@ module _ (t : Stretch) (go : List Word → Stretch) where
     where
       cut : (u : Result (List Word) Fault) → u ≡ Err e → before t.entries (resumed u go) ≡ record { entries = t.entries; ends = Err e }
       cut u h = ap (λ (v : Result (List Word) Fault). before t.entries (resumed v go)) h ∙ ap (λ (es : List Entry). record { entries = es; ends = Err e }) (append-nil t.entries)
-  onward_stop a b mid r left OutOfMemory y made same first = ran_out (onward t go) a b r left y made same
+  onward_stop a b mid r left (OutOfMemory x) y made same first = ran_out (onward t go) a b r left y x made same

@@ -20,7 +20,7 @@ pub record Grown (a b : Entries) (es : List Entry) : Type 0 where
 abbrev pub Outcome : Stretch → Entries → Entries → Result (Unit {0}) Stop → List Word → Type 0
 Outcome t a b (Ok _) left = Grown a b t.entries × (t.ends ≡ Ok left)
 Outcome t a b (Err (Faulty e)) left = Grown a b t.entries × (t.ends ≡ Err e)
-Outcome t a b (Err OutOfMemory) left = Unit {0}
+Outcome t a b (Err (OutOfMemory error)) left = Unit {0}
 
 -- code that reads the stretch, from these entries to those
 pub record Ran (t : Stretch) (a b : Entries) (r : Result (Unit {0}) Stop) (left : List Word) : Type 0 where

@@ -2,12 +2,10 @@
 #![tactic(auto)]
 
 mod entries;
-mod number;
+mod reader;
 mod rows;
 mod script;
-mod sections;
 mod stop;
-mod words;
 
 pub use entries::Entries;
-pub use script::{MOST_BYTES, Script, read};
+pub use script::{Script, read};

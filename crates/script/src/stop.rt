@@ -8,7 +8,7 @@ use std::alloc::AllocError;
 #[derive(Drop)]
 pub enum Stop {
     Faulty(Fault),
-    OutOfMemory,
+    OutOfMemory(AllocError),
 }
 
 impl Stop {
@@ -18,7 +18,7 @@ impl Stop {
     {
         match self {
             Stop::Faulty(fault) => Ok(fault),
-            Stop::OutOfMemory => Err(AllocError),
+            Stop::OutOfMemory(error) => Err(error),
         }
     }
 }
@@ -32,9 +32,9 @@ impl From<Fault> for Stop {
 }
 
 impl From<AllocError> for Stop {
-    ghost from_gives = { λ _ r. r ≡ OutOfMemory };
+    ghost from_gives = { λ error r. r ≡ OutOfMemory error };
 
-    fn from(_error: AllocError) -> Stop {
-        Stop::OutOfMemory
+    fn from(error: AllocError) -> Stop {
+        Stop::OutOfMemory(error)
     }
 }
