@@ -1,4 +1,1 @@
-mod Cuts
 mod Nine
-mod Numerals
-mod Rows

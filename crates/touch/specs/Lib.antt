@@ -1,7 +1,4 @@
 pub mod Due
 pub mod Facets
 pub mod Faults
-pub mod Numbers
 pub mod Reports
-pub mod Sections
-pub mod Words

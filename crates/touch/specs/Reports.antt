@@ -1,7 +1,8 @@
 -- The lines of a report.
 use Rattle.std.specs.Prelude.{ℕ, Bool, cond, List, [], ◌++◌, codes, decimal}
-use Rattle.touch.specs.declared.fault.Fault.TheVariants.{WrongLength}
-use Rattle.touch.specs.declared.section.Section.TheVariants.{Kind}
+use Rattle.jobtext.specs.declared.fault.Flaw.TheVariants.{WrongLength}
+use Rattle.jobtext.specs.declared.section.Section.TheVariants.{Kind}
+use Rattle.touch.specs.declared.refusal.Fault.TheVariants.{Text}
 use Rattle.touch.specs.declared.stop.Stop.{Stop}
 use Rattle.touch.specs.declared.stop.Stop.TheVariants.{Refused, LargerObject, OutOfMemory}
 use Rattle.touch.specs.Faults.{refusal_line}
@@ -15,8 +16,8 @@ placement_lines_lem i parted =
 abbrev pub stop_line : Stop → List ℕ
 stop_line (Refused r) = refusal_line r ++ codes "\n"
 stop_line LargerObject = codes "this version compares single facets without ties only\n"
-stop_line OutOfMemory = []
+stop_line (OutOfMemory error) = []
 
 -- a job with too many bytes
 abbrev pub too_long : Stop
-too_long = Refused (record { fault = WrongLength; section = Kind; word = 0 })
+too_long = Refused (record { fault = Text WrongLength; blame = record { section = Kind; word = 0 } })

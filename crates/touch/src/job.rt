@@ -1,65 +1,47 @@
 // Reads a job and compares its objects.
 ghost use Rattle.std.specs.Prelude.{◌≡◌, ◌<◌, length, IfOk, Err, string_bytes, MatchResult};
-ghost use Rattle.placement.specs.Twelve.{InRange as PlacementInRange, entries as placement_entries};
+ghost use Rattle.jobtext.specs.Due.{AllNumbered};
+ghost use Rattle.jobtext.specs.Words.{job_limit};
 ghost use Rattle.touch.specs.declared.facet.Facet.{Facet as FacetOf};
-ghost use Rattle.touch.specs.declared.fault.Fault.TheVariants.{CornerOutOfRange, PlacementOutOfRange};
-ghost use Rattle.touch.specs.Due.{AllNumbered, NotRead};
+ghost use Rattle.touch.specs.declared.refusal.Fault.TheVariants.{CornerOutOfRange};
+ghost use Rattle.touch.specs.Due.{NotRead};
 ghost use Rattle.touch.specs.Facets.{InRange, corners, entries};
 ghost use Rattle.touch.specs.Reports.{placement_lines_lem, stop_line, too_long};
-ghost use Rattle.touch.specs.Words.{job_limit, words};
 
 use super::facet::Facet;
-use super::fault::{Fault, Refusal};
-use super::section::Section;
+use super::refusal::{Fault, Refusal};
+use super::rows::read_row;
 use super::stop::Stop;
-use super::words::{Words, is_text};
 use axes::Axes;
 use ball::BallHull;
 use faced::{BoxHull, ManyHull};
-use hull::{Hull, Named};
+use hull::Hull;
+use jobtext::{Kind, Section};
 use overlap::parted;
 use placement::Placement;
 use std::alloc::{AllocError, Global};
-
-// A job has at most so many bytes.
-pub const MOST_BYTES: usize = 65536;
+use words::Words;
 
 // The hull of the facet that is due.
 fn read_facet<H: Hull>(input: &mut Words) -> Result<H, Refusal>
-    ensures { MatchResult result (λ h. (f : FacetOf) × AllNumbered (words input.old.rest.now) (entries f) (words input.new.rest.now) × H.fits h (corners f)) (λ e. NotRead 9 InRange CornerOutOfRange (words input.old.rest.now) input.old.section input.old.taken e) }
+    ensures { MatchResult result (λ h. (f : FacetOf) × AllNumbered input.old.left (entries f) input.new.left × H.fits h (corners f)) (λ e. NotRead 9 InRange CornerOutOfRange input.old.left input.old.section input.old.taken e) }
 {
-    let numbers = input.numbers::<9>()?;
-    match Facet::new(numbers) {
-        Some(facet) => Ok(facet.hull()),
-        None => Err(input.refuse(Fault::CornerOutOfRange)),
-    }
+    let facet = read_row::<Facet, 9>(input, Fault::CornerOutOfRange)?;
+    Ok(facet.hull())
 }
 
 // The hull of the object that is due.
 fn read_object<H: Hull>(input: &mut Words, facets: Section, ties: Section) -> Result<H, Stop>
     ensures { IfOk result (λ h. (f : FacetOf) × H.fits h (corners f)) }
 {
-    input.open(facets)?;
-    if input.count()? != 1 {
+    if input.count(facets)? != 1 {
         return Err(Stop::LargerObject);
     }
     let hull = read_facet(input)?;
-    input.open(ties)?;
-    if input.count()? != 0 {
+    if input.count(ties)? != 0 {
         return Err(Stop::LargerObject);
     }
     Ok(hull)
-}
-
-// The placement that is due.
-fn read_placement(input: &mut Words) -> Result<Placement, Refusal>
-    ensures { MatchResult result (λ p. AllNumbered (words input.old.rest.now) (placement_entries p) (words input.new.rest.now)) (λ e. NotRead 12 PlacementInRange PlacementOutOfRange (words input.old.rest.now) input.old.section input.old.taken e) }
-{
-    let numbers = input.numbers::<12>()?;
-    match Placement::new(numbers) {
-        Some(placement) => Ok(placement),
-        None => Err(input.refuse(Fault::PlacementOutOfRange)),
-    }
 }
 
 // The lines of a placement.
@@ -77,10 +59,12 @@ fn placement_lines(heap: Global, index: u64, is_parted: bool) -> Result<String, 
 fn compare<H: Hull>(heap: Global, input: &mut Words, report: &mut String) -> Result<(), Stop> {
     let moved: H = read_object(input, Section::Facets, Section::Ties)?;
     let standing: H = read_object(input, Section::Facets2, Section::Ties2)?;
-    input.open(Section::Placements)?;
-    let count = input.count()?;
+    let count = input.count(Section::Placements)?;
     for index in 0..count {
-        let axes = Axes::new(read_placement(input)?);
+        let axes = Axes::new(read_row::<Placement, 12>(
+            input,
+            Fault::PlacementOutOfRange,
+        )?);
         let lines = placement_lines(heap, index, parted(&axes, &moved, &standing))?;
         report.push_str(lines.as_str())?;
     }
@@ -88,39 +72,17 @@ fn compare<H: Hull>(heap: Global, input: &mut Words, report: &mut String) -> Res
     Ok(())
 }
 
-// Whether the word names the kind.
-fn is_kind<K: Named>(word: &[u8]) -> bool {
-    is_text(word, K::WORD)
-}
-
-// Reads a job that is not too long.
-fn read_job(heap: Global, input: &mut Words, report: &mut String) -> Result<(), Stop> {
-    input.open(Section::Kind)?;
-    let kind = input.word()?;
-    if is_kind::<BoxHull>(kind) {
-        compare::<BoxHull>(heap, input, report)
-    } else if is_kind::<ManyHull>(kind) {
-        compare::<ManyHull>(heap, input, report)
-    } else if is_kind::<BallHull>(kind) {
-        compare::<BallHull>(heap, input, report)
-    } else {
-        Err(Stop::Refused(input.refuse(Fault::WrongWord)))
-    }
-}
-
-// Reads a job, and reports as far as it goes.
+// Reads a job and reports as far as it goes.
 fn follow(heap: Global, job: &[u8], report: &mut String) -> Result<(), Stop>
     ensures stops { job_limit < length job.now → result ≡ Err too_long }
     ensures same { job_limit < length job.now → string_bytes report.new ≡ string_bytes report.old }
 {
-    if job.len() > MOST_BYTES {
-        return Err(Stop::Refused(Refusal {
-            fault: Fault::WrongLength,
-            section: Section::Kind,
-            word: 0,
-        }));
+    let mut input = Words::new(job)?;
+    match input.kind()? {
+        Kind::Box => compare::<BoxHull>(heap, &mut input, report),
+        Kind::Many => compare::<ManyHull>(heap, &mut input, report),
+        Kind::Ball => compare::<BallHull>(heap, &mut input, report),
     }
-    read_job(heap, &mut Words::new(job), report)
 }
 
 // The last line of a report that ends before the job does.
@@ -135,7 +97,7 @@ fn last_line(heap: Global, stop: Stop) -> Result<String, AllocError>
                 "this version compares single facets without ties only\n",
             )
         }
-        Stop::OutOfMemory => Err(AllocError),
+        Stop::OutOfMemory(error) => Err(error),
     }
 }
 

@@ -5,12 +5,6 @@ use Rattle.jobtext.proofs.Dues.{reads_fault}
 use Rattle.jobtext.proofs.Rows.{row_read, row_stop}
 use Rattle.script.proofs.rows.read_row.Goals as goal
 
-pub numbers-requires : goal.numbers-requires
-numbers-requires g c = g.met.R.Row.sized
-
-pub request-requires : goal.request-requires
-request-requires g c = g.met.R.Row.sized
-
 pub returns-in_err-numbers-clause-reads : goal.returns-in_err-numbers-clause-reads
 returns-in_err-numbers-clause-reads g c =
     let at = c.args.input.now in
