@@ -6,7 +6,8 @@ use book::Request;
 use jobtext::Blame;
 use std::alloc::{AllocError, Global};
 
-// Two lists of one length: the blame of a request stands at the same place as the request.
+// Two lists of one length: the blame of a request stands at the same place as the request. They are no list of pairs, since the
+// register takes the requests as a slice, and the report the blames.
 #[derive(Drop)]
 pub struct Entries {
     pub requests: Vec<Request>,

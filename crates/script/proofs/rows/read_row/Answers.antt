@@ -11,9 +11,6 @@ returns-in_err-numbers-clause-reads g c =
     let p = err_from_is_err_and c.from_residual.result c.from_residual.ensures.1 in
     reads_fault _ _ _ _ _ p.1 p.2 (row_stop g.R.Row.form _ _ _ _ (subst (λ n. numbers n at.section at.taken at.left ≡ Err c.in_err-numbers.field-0.0) (sym g.met.R.Row.wide) c.in_err-numbers.ensures.reads))
 
-pub returns-clause-taken : goal.returns-clause-taken
-returns-clause-taken g c = c.in_ok-numbers.ensures.taken ∙ ap (λ n. c.args.input.now.taken + n) (sym g.met.R.Row.wide)
-
 pub returns-clause-reads : goal.returns-clause-reads
 returns-clause-reads g c =
     let at = c.args.input.now in

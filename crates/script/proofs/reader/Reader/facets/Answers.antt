@@ -11,11 +11,6 @@ returns-in_err-count c =
     let p = err_from_is_err_and c.from_residual.result c.from_residual.ensures.1 in
     then_fault _ _ _ _ _ _ _ p.1 p.2 c.in_err-count.ensures.reads
 
-pub returns-in_err-put : goal.returns-in_err-put
-returns-in_err-put c =
-    let p = err_from_is_err_and c.from_residual-in_err-put.result c.from_residual-in_err-put.ensures.1 in
-    ran_out _ _ _ _ _ _ _ p.1 p.2
-
 pub returns : goal.returns
 unfolding facets_of
 returns c =

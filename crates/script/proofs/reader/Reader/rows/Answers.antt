@@ -6,10 +6,6 @@ use Rattle.words.specs.Progress.{Progress}
 use Rattle.script.proofs.Growth.{grown_none, grown_more, ran_done, ran_fault, ran_out}
 use Rattle.script.proofs.reader.Reader.rows.Goals as goal
 
-pub loop-row-init : goal.loop-row-init
-loop-row-init g c =
-    ([], grown_none _, refl, omega arith, rows_none g.R.Row.form _ _ _ (c.args.count - 0) c.args.count (omega arith))
-
 pub loop-row-preserved : goal.loop-row-preserved
 loop-row-preserved g c =
     let f = g.R.Row.form in
@@ -29,36 +25,16 @@ loop-row-preserved g c =
       ∙ (λ j. before (inv.0 ++ (asked_at (told.section j) (told.taken j) q ∷ [])) (rows f m (told.section j) (told.taken j) mid.left)) ∙ sym step ∙ inv.4,
     )
 
-pub returns-in_err-request : goal.returns-in_err-request
-returns-in_err-request g c =
+pub returns-in_err-request-clause-ran : goal.returns-in_err-request-clause-ran
+returns-in_err-request-clause-ran g c =
     let inv = c.loop-row.invariant in
     let i = c.loop-row._row in
     let told = c.in_err-request.ensures in
     let p = err_from_is_err_and c.from_residual.result c.from_residual.ensures.1 in
     let cut = sym inv.4 ∙ rows_stop g.R.Row.form _ _ _ inv.0 (c.args.count - i) (c.args.count - (i + 1)) _ (omega arith) told.reads in
-    record {
-      section = told.section ∙ inv.2;
-      taken = IfOk-from_err _ _ c.from_residual.ensures.0;
-      ran = ran_fault _ _ _ _ _ _ _ _ p.1 p.2 inv.1 cut;
-    }
+    ran_fault _ _ _ _ _ _ _ _ p.1 p.2 inv.1 cut
 
-pub returns-in_err-put : goal.returns-in_err-put
-returns-in_err-put g c =
-    let told = c.in_ok-request.ensures in
-    let p = err_from_is_err_and c.from_residual-in_err-put.result c.from_residual-in_err-put.ensures.1 in
-    record {
-      section = ap (λ p. p.section) c.put.ensures.input ∙ told.section ∙ c.loop-row.invariant.2;
-      taken = IfOk-from_err _ _ c.from_residual-in_err-put.ensures.0;
-      ran = ran_out _ _ _ _ _ _ _ p.1 p.2;
-    }
-
-pub returns : goal.returns
-returns g c =
+pub returns-clause-ran : goal.returns-clause-ran
+returns-clause-ran g c =
     let inv = c.loop-row.invariant in
-    let i = c.loop-row._row in
-    let all : c.loop-row._row ≡ c.args.count = omega arith in
-    record {
-      section = inv.2;
-      taken = inv.3 ∙ ap (λ n. c.args.self.now.input.taken + n * g.R.Row.form.width) all;
-      ran = ran_done _ _ _ _ _ inv.1 (sym inv.4 ∙ rows_done g.R.Row.form _ _ _ inv.0 (c.args.count - i) (omega arith));
-    }
+    ran_done _ _ _ _ _ inv.1 (sym inv.4 ∙ rows_done g.R.Row.form _ _ _ inv.0 (c.args.count - c.loop-row._row) (omega arith))

@@ -19,11 +19,6 @@ returns-in_err-rows c =
     then_ran _ _ _ _ _ _ _ _ told.reads
     (onward_stop _ _ _ _ _ _ _ _ _ p.1 p.2 (rows_at tie _ _ _ _ _ _ _ _ _ _ _ told.section told.taken refl c.in_err-rows.ensures.ran))
 
-pub returns-in_err-put : goal.returns-in_err-put
-returns-in_err-put c =
-    let p = err_from_is_err_and c.from_residual-in_err-put.result c.from_residual-in_err-put.ensures.1 in
-    ran_out _ _ _ _ _ _ _ p.1 p.2
-
 pub returns : goal.returns
 unfolding ties_of
 returns c =
