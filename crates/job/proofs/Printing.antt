@@ -1,7 +1,8 @@
 -- From the answers of a replay to what the report says.
-use Rattle.std.proofs.Common.{◌≡◌, ℕ, suc, ◌+◌, ◌*◌, ◌≤◌, min, Bool, true, false, List, [], ◌∷◌, ◌++◌, length, take, drop, ℤ, Some, None, Option, sym, refl, ap, ◌∙◌, subst, subst₂, mul-le-mul_right, suc-mul, add-one, arith}
+use Rattle.std.proofs.Common.{◌≡◌, ℕ, suc, ◌+◌, ◌*◌, ◌≤◌, min, Bool, true, false, cond, List, [], ◌∷◌, ◌++◌, length, take, drop, ℤ, Some, None, Option, sym, refl, ap, ◌∙◌, subst, subst₂, mul-le-mul_right, suc-mul, add-one, arith}
 use Rattle.std.specs.List.{flat_map}
 use Rattle.std.proofs.lemmas.List.{take-take, take-append-le, take_all, length-take, length-drop}
+use Rattle.std.proofs.lemmas.List.Sums.{sum_by-cons}
 use Rattle.std.proofs.lemmas.Bool.{false≢true}
 use Rattle.hull.specs.declared.corner.Corner.{Corner}
 use Rattle.hull.specs.declared.direction.Direction.{Direction}
@@ -21,8 +22,8 @@ use Rattle.walks.specs.Runs as runs
 use Rattle.jobtext.specs.declared.fault.Blame.{Blame}
 use Rattle.jobtext.specs.declared.fault.Fault.{Fault}
 use Rattle.jobtext.specs.Forms.{mark}
-use Rattle.report.specs.Reports.{report_from, report_of, placement_line_lem, pair_line_lem}
-use Rattle.job.specs.Prints.{job_items, pair_places, comparisons_in, Prints, ended, wrote, listed, no_write, no_list}
+use Rattle.report.specs.Reports.{report_from, report_of, placement_line, pair_line}
+use Rattle.job.specs.Prints.{job_items, pair_places, compares, comparisons_in, Prints, ended, wrote, listed, no_write, no_list}
 
 -- a call that writes lists nothing
 lists? : Answer → Bool
@@ -86,7 +87,7 @@ module _ {H : Type 0} (begun : Corner → H) (grown : H → Corner → H) (reach
   after_compare {k} xs h (no_placement y n e) p = no_list (full_stretch pair_places k before h) (no_placement y n e)
   after_compare {k} xs h (no_place y e w f) p = no_list (full_stretch pair_places k before h) (no_place y e w f)
   after_compare {k} {b} {c} xs {rs} {blame} {bs} h (answers.listed y e {pairs} {tests} w f) p =
-      subst (λ (z : List (ℕ × ℕ)). Prints begun grown reaches faced unrounded fault k b (Compare c ∷ rs) (blame ∷ bs) (placement_line_lem k (length pairs) tests ++ (flat_map pair_line_lem z ++ Text (k + 1) xs bs))) (sym (first_pairs pair_places k before lists pairs f))
+      subst (λ (z : List (ℕ × ℕ)). Prints begun grown reaches faced unrounded fault k b (Compare c ∷ rs) (blame ∷ bs) (placement_line k (length pairs) tests ++ (flat_map pair_line z ++ Text (k + 1) xs bs))) (sym (first_pairs pair_places k before lists pairs f))
       (listed y e w (omega (arith, f.room, full_stretch pair_places k before h)) p)
 
   pub prints : {k n : ℕ} {b d : Book} {rs : List Request} {xs : List Answer} (bs : List Blame) → n * pair_places ≤ length before → length bs ≡ length rs → RanSo k b rs xs n d → Prints begun grown reaches faced unrounded fault k b rs bs (Text k xs bs)
@@ -104,7 +105,7 @@ module _ {H : Type 0} (begun : Corner → H) (grown : H → Corner → H) (reach
 pub ran_all : {H : Type 0} {begun : Corner → H} {grown : H → Corner → H} {reaches : H → Direction → ℤ} {faced : Type 0} {unrounded : List Corner → Direction → ℤ} {before lists : List (ℕ × ℕ)} {k n : ℕ} {b d : Book} {rs : List Request} {xs : List Answer} → Ran begun grown reaches faced unrounded pair_places before lists k b rs xs n d → n ≡ k + comparisons_in rs
 ran_all runs.none = omega arith
 ran_all (runs.wrote s r) = ran_all r
-ran_all (runs.asked s r) = omega (arith, ran_all r)
+ran_all (runs.asked {c} {requests = rs} s r) = omega (arith, ran_all r, sum_by-cons (λ x. cond (compares x) 1 0) (Compare c) rs)
 
 -- the report on a replay of all requests, with places enough
 module _ {H : Type 0} (begun : Corner → H) (grown : H → Corner → H) (reaches : H → Direction → ℤ) (faced : Type 0) (unrounded : List Corner → Direction → ℤ) (fault : Option Fault) (requests : List Request) (blames : List Blame) (xs ys : List Answer) (before lists : List (ℕ × ℕ)) (table : ℕ) where

@@ -1,5 +1,5 @@
 -- What a report says of the requests of a job, over a kind by its begun, grown and reaches, and by its unrounded reaches where it has faces.
-use Rattle.std.specs.Prelude.{◌≡◌, ℕ, ◌+◌, ◌≤◌, Bool, true, false, List, [], ◌∷◌, ◌++◌, length, ℤ, Option}
+use Rattle.std.specs.Prelude.{◌≡◌, ℕ, ◌+◌, ◌≤◌, Bool, true, false, List, [], ◌∷◌, ◌++◌, length, count_by, ℤ, Option}
 use Rattle.std.specs.List.{flat_map}
 use Rattle.hull.specs.declared.corner.Corner.{Corner}
 use Rattle.hull.specs.declared.direction.Direction.{Direction}
@@ -19,7 +19,7 @@ use Rattle.walks.specs.Answers.{both_closed}
 use Rattle.walks.specs.Runs.{Compared}
 use Rattle.jobtext.specs.declared.fault.Blame.{Blame}
 use Rattle.jobtext.specs.declared.fault.Fault.{Fault}
-use Rattle.report.specs.Reports.{placement_line_lem, pair_line_lem, refusal_line_lem, fault_line}
+use Rattle.report.specs.Reports.{placement_line, pair_line, refusal_line, fault_line}
 
 -- a job has so many items
 abbrev pub job_items : ℕ
@@ -29,11 +29,14 @@ job_items = 1024
 abbrev pub pair_places : ℕ
 pair_places = 4096
 
+-- does the request ask for a comparison?
+abbrev pub compares : Request → Bool
+compares (Write c) = false
+compares (Compare c) = true
+
 -- how many comparisons there are among the requests
 abbrev pub comparisons_in : List Request → ℕ
-comparisons_in [] = 0
-comparisons_in (Write c ∷ rs) = comparisons_in rs
-comparisons_in (Compare c ∷ rs) = 1 + comparisons_in rs
+comparisons_in rs = count_by compares rs
 
 -- was the call accepted?
 abbrev pub accepted : Answer → Bool
@@ -55,9 +58,9 @@ module _ {H : Type 0} (begun : Corner → H) (grown : H → Corner → H) (reach
     -- a comparison is accepted: its line and a line for each pair of the walk
     listed : {k : ℕ} {b : Book} {c : Comparison} {p : Placement} {pairs : List (ℕ × ℕ)} {tests : ℕ} {requests : List Request} {blame : Blame} {blames : List Blame} {text : List ℕ}
         → both_closed b c ≡ true → entries p ≡ c.placement → Listing begun grown reaches faced unrounded (object b c.moved) (object b c.standing) p pairs tests → length pairs ≤ pair_places
-        → Prints (k + 1) b requests blames text → Prints k b (Compare c ∷ requests) (blame ∷ blames) (placement_line_lem k (length pairs) tests ++ (flat_map pair_line_lem pairs ++ text))
+        → Prints (k + 1) b requests blames text → Prints k b (Compare c ∷ requests) (blame ∷ blames) (placement_line k (length pairs) tests ++ (flat_map pair_line pairs ++ text))
     -- the first refusal ends the report
     no_write : {k : ℕ} {b c : Book} {call : Call} {why : Refusal} {requests : List Request} {blame : Blame} {blames : List Blame}
-        → Said b call (Refused why) c → Prints k b (Write call ∷ requests) (blame ∷ blames) (refusal_line_lem (number why) blame)
+        → Said b call (Refused why) c → Prints k b (Write call ∷ requests) (blame ∷ blames) (refusal_line (number why) blame)
     no_list : {k : ℕ} {b : Book} {c : Comparison} {why : Refusal} {before after : List (ℕ × ℕ)} {requests : List Request} {blame : Blame} {blames : List Blame}
-        → length before ≡ pair_places → Compared begun grown reaches faced unrounded b c before after (Refused why) → Prints k b (Compare c ∷ requests) (blame ∷ blames) (refusal_line_lem (number why) blame)
+        → length before ≡ pair_places → Compared begun grown reaches faced unrounded b c before after (Refused why) → Prints k b (Compare c ∷ requests) (blame ∷ blames) (refusal_line (number why) blame)

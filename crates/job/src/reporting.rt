@@ -11,6 +11,7 @@ use script::read;
 use std::alloc::{AllocError, Global};
 
 // The report on the job with these bytes. It fails only for want of memory.
+#[tactic(auto, using(crate::proofs::Telling::as_many, crate::proofs::Telling::reports), unfolding(report::specs::Reports::report_from))]
 pub fn report(heap: Global, bytes: &[u8]) -> Result<String, AllocError>
     ensures { IfOk result (λ s. Reports bytes.now (string_bytes s)) }
 {
@@ -20,11 +21,11 @@ pub fn report(heap: Global, bytes: &[u8]) -> Result<String, AllocError>
         Some(Kind::Many) => run::<ManyHull>(heap, &script.entries, script.fault),
         Some(Kind::Ball) => run::<BallHull>(heap, &script.entries, script.fault),
         None => {
-            let none = Lists {
+            let lists = Lists {
                 pairs: &[],
                 places: 0,
             };
-            render(heap, &[], &[], script.fault, &none)
+            render(heap, &[], &[], script.fault, &lists)
         }
     }
 }

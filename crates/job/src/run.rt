@@ -25,13 +25,10 @@ const PAIRS: usize = 4096;
 fn count_comparisons(requests: &[Request]) -> usize
     ensures { result ≡ comparisons_in requests.now }
 {
-    let mut count = 0;
-    for request in requests {
-        if let Request::Compare(_) = request {
-            count += 1;
-        }
-    }
-    count
+    requests
+        .iter()
+        .filter(|request| matches!(request, Request::Compare(_)))
+        .count()
 }
 
 // A place that nothing was entered into.
@@ -45,30 +42,6 @@ fn blank<H: Hull>() -> Place<H> {
     }
 }
 
-// A table for the items of a job.
-fn blank_table<H: Hull + Clone>(heap: Global) -> Result<Vec<Place<H>>, AllocError>
-    ensures { IfOk result (λ v. length v.items ≡ job_items) }
-{
-    vec![in heap; blank::<H>(); ITEMS]
-}
-
-// Places for so many answers.
-fn blank_answers(heap: Global, count: usize) -> Result<Vec<Answer>, AllocError>
-    ensures { IfOk result (λ v. length v.items ≡ count) }
-{
-    vec![in heap; Answer::Started; count]
-}
-
-// Places for the pairs of so many comparisons.
-fn blank_lists(heap: Global, count: usize) -> Result<Vec<(u32, u32)>, AllocError>
-    ensures { IfOk result (λ v. length v.items ≡ count * pair_places) }
-{
-    match count.checked_mul(PAIRS) {
-        Some(places) => vec![in heap; (0u32, 0u32); places],
-        None => Err(AllocError),
-    }
-}
-
 // Makes the requests in turn over hulls of one kind, and reports on the answers.
 pub(crate) fn run<H: Hull + Clone>(
     heap: Global,
@@ -79,27 +52,14 @@ pub(crate) fn run<H: Hull + Clone>(
     ensures { IfOk result (λ s. Prints H.begun H.grown H.reaches H.faced H.unrounded fault 0 (opened mark job_items) entries.now.requests.items entries.now.blames.items (string_bytes s)) }
 {
     let requests = entries.requests.as_slice();
-    let mut table = blank_table::<H>(heap)?;
-    let mut answers = blank_answers(heap, requests.len())?;
-    let mut lists = blank_lists(heap, count_comparisons(requests))?;
-    replay_requests(
-        MARK,
-        table.as_mut_slice(),
-        requests,
-        answers.as_mut_slice(),
-        PAIRS,
-        lists.as_mut_slice(),
-    );
-    let pairs = lists.as_slice();
+    let mut table = vec![in heap; blank::<H>(); ITEMS]?;
+    let mut answers = vec![in heap; Answer::Started; requests.len()]?;
+    let mut lists = vec![in heap; [(0, 0); PAIRS]; count_comparisons(requests)]?;
+    let pairs = lists.as_flattened_mut();
+    replay_requests(MARK, &mut table, requests, &mut answers, PAIRS, pairs);
     let lists = Lists {
         pairs,
         places: PAIRS,
     };
-    render(
-        heap,
-        answers.as_slice(),
-        entries.blames.as_slice(),
-        fault,
-        &lists,
-    )
+    render(heap, &answers, &entries.blames, fault, &lists)
 }

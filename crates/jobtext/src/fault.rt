@@ -14,8 +14,8 @@ pub struct Blame {
 // A word that is not the one that is due, or too few or too many words or bytes.
 #[derive(Clone, Copy)]
 pub enum Flaw {
-    WrongWord,
-    WrongLength,
+    WrongWord = 12,
+    WrongLength = 13,
 }
 
 // A flaw, and the word at which it is found.

@@ -7,7 +7,7 @@ use Rattle.book.specs.declared.call.Answer.TheVariants.{Started, Entered, Filed,
 use Rattle.jobtext.specs.declared.fault.Blame.{Blame}
 use Rattle.jobtext.specs.declared.fault.Fault.{Fault}
 use Rattle.report.specs.Endings.{Accepted, comparisons, Ends}
-use Rattle.report.specs.Reports.{placement_line_lem, pair_line_lem, report_from, report_of}
+use Rattle.report.specs.Reports.{placement_line, pair_line, report_from, report_of}
 
 module _ (lists : List (ℕ × ℕ)) (places : ℕ) (fault : Option Fault) where
   -- the number of the next comparison
@@ -31,8 +31,8 @@ module _ (lists : List (ℕ × ℕ)) (places : ℕ) (fault : Option Fault) where
   front_first k (Filed n ∷ front) rest (b ∷ before) behind all long = front_first k front rest before behind all.1 (omega arith)
   front_first k (Removed n ∷ front) rest (b ∷ before) behind all long = front_first k front rest before behind all.1 (omega arith)
   front_first k (Listed count tests ∷ front) rest (b ∷ before) behind all long =
-      let line = placement_line_lem k count tests in
-      let pairs = flat_map pair_line_lem (take count (drop (k * places) lists)) in
+      let line = placement_line k count tests in
+      let pairs = flat_map pair_line (take count (drop (k * places) lists)) in
       ap (λ l. line ++ (pairs ++ l)) (front_first (k + 1) front rest before behind all.1 (omega arith))
       ∙ sym (append_assoc line (pairs ++ comparisons lists places (k + 1) front) _ ∙ ap (λ l. line ++ l) (append_assoc pairs (comparisons lists places (k + 1) front) _))
   front_first k (Refused why ∷ front) rest (b ∷ before) behind all long = absurd all.0

@@ -1,3 +1,2 @@
 mod Endings
-mod Stretches
 mod Turns

@@ -7,7 +7,7 @@ use Rattle.book.specs.declared.refusal.Refusal.{Refusal}
 use Rattle.book.specs.Refusals.{number}
 use Rattle.jobtext.specs.declared.fault.Blame.{Blame}
 use Rattle.jobtext.specs.declared.fault.Fault.{Fault}
-use Rattle.report.specs.Reports.{placement_line_lem, pair_line_lem, refusal_line_lem, fault_line}
+use Rattle.report.specs.Reports.{placement_line, pair_line, refusal_line, fault_line}
 
 -- the answer is no refusal
 abbrev pub Accepted : Answer → Type 0
@@ -27,7 +27,7 @@ module _ (lists : List (ℕ × ℕ)) (places : ℕ) where
   comparisons k (Filed n ∷ rest) = comparisons k rest
   comparisons k (Removed n ∷ rest) = comparisons k rest
   comparisons k (Listed count tests ∷ rest) =
-      placement_line_lem k count tests ++ (flat_map pair_line_lem (take count (drop (k * places) lists)) ++ comparisons (k + 1) rest)
+      placement_line k count tests ++ (flat_map pair_line (take count (drop (k * places) lists)) ++ comparisons (k + 1) rest)
   comparisons k (Refused why ∷ rest) = comparisons k rest
 
   -- the bytes of a report on so many answers, as many blames, and the fault of the text
@@ -35,4 +35,4 @@ module _ (lists : List (ℕ × ℕ)) (places : ℕ) where
     -- where no request is refused, all comparisons are reported, and then the fault of the text
     pub whole : AllByRecursion Accepted answers → length answers ≤ length bs → report ≡ comparisons 0 answers ++ fault_line fault
     -- the first refusal ends the report: what was compared before it stays, and nothing after it counts
-    pub cut : (front : List Answer) (why : Refusal) (more : List Answer) (before : List Blame) (b : Blame) (behind : List Blame) → answers ≡ front ++ (Refused why ∷ more) → bs ≡ before ++ (b ∷ behind) → length before ≡ length front → AllByRecursion Accepted front → report ≡ comparisons 0 front ++ refusal_line_lem (number why) b
+    pub cut : (front : List Answer) (why : Refusal) (more : List Answer) (before : List Blame) (b : Blame) (behind : List Blame) → answers ≡ front ++ (Refused why ∷ more) → bs ≡ before ++ (b ∷ behind) → length before ≡ length front → AllByRecursion Accepted front → report ≡ comparisons 0 front ++ refusal_line (number why) b

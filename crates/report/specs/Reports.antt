@@ -21,28 +21,28 @@ name Ties2 = codes "ties2"
 name Placements = codes "placements"
 
 -- the number of a fault of the text
-abbrev pub flaw_number_lem : Flaw → ℕ
-flaw_number_lem WrongWord = 12
-flaw_number_lem WrongLength = 13
+abbrev pub flaw_number : Flaw → ℕ
+flaw_number WrongWord = 12
+flaw_number WrongLength = 13
 
 -- the last line of a report on a job with a fault
-abbrev pub refusal_line_lem : ℕ → Blame → List ℕ
-refusal_line_lem n b =
+abbrev pub refusal_line : ℕ → Blame → List ℕ
+refusal_line n b =
     codes "refused " ++ (decimal n ++ (codes " in " ++ (name b.section ++ (codes ", word " ++ (decimal b.word ++ codes "\n")))))
 
 -- the line of a comparison: its number, how many pairs it lists, and after how many tests
-abbrev pub placement_line_lem : ℕ → ℕ → ℕ → List ℕ
-placement_line_lem k count tests =
+abbrev pub placement_line : ℕ → ℕ → ℕ → List ℕ
+placement_line k count tests =
     codes "placement " ++ (decimal k ++ (codes ": " ++ (decimal count ++ (codes " pairs, " ++ (decimal tests ++ codes " tests\n")))))
 
 -- the line of a pair: the moved facet, the standing facet
-abbrev pub pair_line_lem : ℕ × ℕ → List ℕ
-pair_line_lem p = decimal p.0 ++ (codes " " ++ (decimal p.1 ++ codes "\n"))
+abbrev pub pair_line : ℕ × ℕ → List ℕ
+pair_line p = decimal p.0 ++ (codes " " ++ (decimal p.1 ++ codes "\n"))
 
 -- the fault of the text, where the text has one
 abbrev pub fault_line : Option Fault → List ℕ
 fault_line None = []
-fault_line (Some e) = refusal_line_lem (flaw_number_lem e.flaw) e.blame
+fault_line (Some e) = refusal_line (flaw_number e.flaw) e.blame
 
 module _ (lists : List (ℕ × ℕ)) (places : ℕ) (fault : Option Fault) where
   -- the report from the comparison number k on: the first refusal cuts it
@@ -54,8 +54,8 @@ module _ (lists : List (ℕ × ℕ)) (places : ℕ) (fault : Option Fault) where
   report_from k (Filed n ∷ rest) (b ∷ bs) = report_from k rest bs
   report_from k (Removed n ∷ rest) (b ∷ bs) = report_from k rest bs
   report_from k (Listed count tests ∷ rest) (b ∷ bs) =
-      placement_line_lem k count tests ++ (flat_map pair_line_lem (take count (drop (k * places) lists)) ++ report_from (k + 1) rest bs)
-  report_from k (Refused why ∷ rest) (b ∷ bs) = refusal_line_lem (number why) b
+      placement_line k count tests ++ (flat_map pair_line (take count (drop (k * places) lists)) ++ report_from (k + 1) rest bs)
+  report_from k (Refused why ∷ rest) (b ∷ bs) = refusal_line (number why) b
 
   -- the report on a job whose requests were answered so
   abbrev pub report_of : List Answer → List Blame → List ℕ
