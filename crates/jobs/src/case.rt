@@ -1,5 +1,7 @@
 // A job with the report that is due, as the test data has them: a line `job NAME B R`, the B bytes of the job, the R bytes of its report
 // and a line end.
+ghost use Rattle.std.specs.Prelude.{◌<◌, length, IfSome};
+ghost use Rattle.std.specs.Iterator.{at_most};
 
 // A job and its report.
 #[derive(Clone, Copy)]
@@ -17,7 +19,11 @@ struct Header<'a> {
     report: usize,
 }
 
-// What is left of the test data.
+// The test data hold something else where a case is due.
+#[derive(Clone, Copy)]
+pub struct Malformed;
+
+// The cases of the test data that are left. A malformed one is the last.
 #[derive(Drop)]
 pub struct Cases<'a> {
     rest: &'a [u8],
@@ -31,28 +37,34 @@ fn read_header(line: &[u8]) -> Option<Header<'_>> {
         return None;
     }
     let name = words.next()?;
-    let job = words.next()?.parse::<usize>().ok()?;
-    let report = words.next()?.parse::<usize>().ok()?;
+    let job = words.next()?.parse().ok()?;
+    let report = words.next()?.parse().ok()?;
     Some(Header { name, job, report })
 }
 
-// The bytes up to a place and those behind it, where there are so many.
-fn cut(bytes: &[u8], at: usize) -> Option<(&[u8], &[u8])> {
-    if at <= bytes.len() {
-        Some((&bytes[0..at], &bytes[at..]))
-    } else {
-        None
-    }
+// The first line without its end, and the bytes behind that.
+fn split_line(bytes: &[u8]) -> Option<(&[u8], &[u8])>
+    ensures { IfSome result (λ parts. length parts.1.now < length bytes.now) }
+{
+    let end = bytes.iter().position(|byte| *byte == b'\n')?;
+    Some((&bytes[..end], &bytes[end + 1..]))
 }
 
-// The first line without its end, and the bytes behind that.
-fn first_line(bytes: &[u8]) -> Option<(&[u8], &[u8])> {
-    for (i, byte) in bytes.iter().enumerate() {
-        if *byte == b'\n' {
-            return Some((&bytes[0..i], &bytes[i + 1..]));
-        }
-    }
-    None
+// The first case, where it is well formed, and the bytes behind it.
+fn split_case(bytes: &[u8]) -> Option<(Case<'_>, &[u8])>
+    ensures { IfSome result (λ parts. length parts.1.now < length bytes.now) }
+{
+    let (line, rest) = split_line(bytes)?;
+    let header = read_header(line)?;
+    let (job, rest) = rest.split_at_checked(header.job)?;
+    let (report, rest) = rest.split_at_checked(header.report)?;
+    let (_, rest) = rest.split_first()?;
+    let case = Case {
+        name: header.name,
+        job,
+        report,
+    };
+    Some((case, rest))
 }
 
 impl<'a> Cases<'a> {
@@ -60,24 +72,26 @@ impl<'a> Cases<'a> {
     pub(crate) fn new(rest: &'a [u8]) -> Cases<'a> {
         Cases { rest }
     }
+}
 
-    // Whether nothing is left.
-    pub(crate) fn is_done(&self) -> bool {
-        self.rest.is_empty()
-    }
+impl<'a> Iterator for Cases<'a> {
+    type Item = Result<Case<'a>, Malformed>;
 
-    // The next case, where it is well formed.
-    pub(crate) fn next_case(&mut self) -> Option<Case<'a>> {
-        let (line, rest) = first_line(self.rest)?;
-        let header = read_header(line)?;
-        let (job, rest) = cut(rest, header.job)?;
-        let (report, rest) = cut(rest, header.report)?;
-        let (_, rest) = cut(rest, 1)?;
-        self.rest = rest;
-        Some(Case {
-            name: header.name,
-            job,
-            report,
-        })
+    ghost remaining = { λ cases. at_most (length cases.rest.now) };
+
+    fn next(&mut self) -> Option<Result<Case<'a>, Malformed>> {
+        if self.rest.is_empty() {
+            return None;
+        }
+        match split_case(self.rest) {
+            Some((case, rest)) => {
+                self.rest = rest;
+                Some(Ok(case))
+            }
+            None => {
+                self.rest = &[];
+                Some(Err(Malformed))
+            }
+        }
     }
 }
