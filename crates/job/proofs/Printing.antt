@@ -1,6 +1,7 @@
 -- From the answers of a replay to what the report says.
-use Rattle.std.proofs.Common.{◌≡◌, ℕ, suc, ◌+◌, ◌*◌, ◌≤◌, min, Bool, true, false, cond, List, [], ◌∷◌, ◌++◌, length, take, drop, ℤ, Some, None, Option, sym, refl, ap, ◌∙◌, subst, subst₂, mul-le-mul_right, suc-mul, add-one, arith}
+use Rattle.std.proofs.Common.{◌≡◌, ℕ, suc, ◌+◌, ◌*◌, ◌≤◌, min, Bool, true, false, cond, List, [], ◌∷◌, ◌++◌, length, take, drop, ℤ, Some, None, Option, Result, String, IfOk, string_bytes, sym, refl, ap, ◌∙◌, subst, subst₂, mul-le-mul_right, suc-mul, add-one, arith}
 use Rattle.std.specs.List.{flat_map}
+use Rattle.std.proofs.lemmas.Result.{IfOk-weaker}
 use Rattle.std.proofs.lemmas.List.{take-take, take-append-le, take_all, length-take, length-drop}
 use Rattle.std.proofs.lemmas.List.Sums.{sum_by-cons}
 use Rattle.std.proofs.lemmas.Bool.{false≢true}
@@ -108,14 +109,14 @@ ran_all (runs.wrote s r) = ran_all r
 ran_all (runs.asked {c} {requests = rs} s r) = omega (arith, ran_all r, sum_by-cons (λ x. cond (compares x) 1 0) (Compare c) rs)
 
 -- the report on a replay of all requests, with places enough
-module _ {H : Type 0} (begun : Corner → H) (grown : H → Corner → H) (reaches : H → Direction → ℤ) (faced : Type 0) (unrounded : List Corner → Direction → ℤ) (fault : Option Fault) (requests : List Request) (blames : List Blame) (xs ys : List Answer) (before lists : List (ℕ × ℕ)) (table : ℕ) where
-  pub replay_prints : length blames ≡ length requests → length xs ≡ length requests → length ys ≡ length xs → length before ≡ comparisons_in requests * pair_places → table ≡ job_items
-      → Replayed begun grown reaches faced unrounded mark table requests xs ys pair_places before lists → Prints begun grown reaches faced unrounded fault 0 (opened mark job_items) requests blames (report_of lists pair_places fault ys blames)
-  replay_prints nb nx ny nl nt r =
-      let m : min (length requests) (length xs) ≡ length requests = omega arith in
-      let a : take (min (length requests) (length xs)) requests ≡ requests = take_all _ requests (omega arith) in
-      let b : take (min (length requests) (length xs)) ys ≡ ys = take_all _ ys (omega arith) in
+module _ {H E Z : Type 0} {begun : Corner → H} {grown : H → Corner → H} {reaches : H → Direction → ℤ} {faced : Type 0} {unrounded : List Corner → Direction → ℤ} (fault : Option Fault) {requests rs : List Request} {blames bs : List Blame} {xs ys : List Answer} {before lists : List (ℕ × ℕ)} {table : ℕ} (text : Result (String Z) E) where
+  pub replay_prints : Replayed begun grown reaches faced unrounded mark table rs xs ys pair_places before lists → IfOk text (λ s. string_bytes s ≡ report_of lists pair_places fault ys bs) → rs ≡ requests → bs ≡ blames → length blames ≡ length requests → length xs ≡ length rs → length ys ≡ length xs → length before ≡ comparisons_in rs * pair_places → table ≡ job_items
+      → IfOk text (λ s. Prints begun grown reaches faced unrounded fault 0 (opened mark job_items) requests blames (string_bytes s))
+  replay_prints r told er eb nb nx ny nl nt =
+      let m : min (length rs) (length xs) ≡ length rs = omega arith in
+      let a : take (min (length rs) (length xs)) rs ≡ requests = take_all _ rs (omega arith) ∙ er in
+      let b : take (min (length rs) (length xs)) ys ≡ ys = take_all _ ys (omega arith) in
       let k = subst₂ (λ (rs : List Request) (zs : List Answer). Ran begun grown reaches faced unrounded pair_places before lists 0 (opened mark table) rs zs r.comparisons r.last) a b r.ran in
-      let n : r.comparisons ≡ comparisons_in requests = ran_all k ∙ omega arith in
-      subst (λ (t : ℕ). Prints begun grown reaches faced unrounded fault 0 (opened mark t) requests blames (report_of lists pair_places fault ys blames)) nt
-      (prints begun grown reaches faced unrounded fault before lists blames (omega (arith, ap (λ (c : ℕ). c * pair_places) n)) nb k)
+      let n : r.comparisons ≡ comparisons_in rs = omega (arith, ran_all k, ap comparisons_in er) in
+      let p = prints begun grown reaches faced unrounded fault before lists blames (omega (arith, ap (λ (c : ℕ). c * pair_places) n)) nb k in
+      IfOk-weaker text _ _ (λ s e. subst₂ (λ (t : ℕ) (z : List ℕ). Prints begun grown reaches faced unrounded fault 0 (opened mark t) requests blames z) nt (sym (e ∙ ap (report_of lists pair_places fault ys) eb)) p) told

@@ -10,7 +10,7 @@ use Rattle.book.specs.declared.call.Comparison.{Comparison}
 use Rattle.book.specs.declared.call.Request.{Request}
 use Rattle.book.specs.declared.call.Request.TheVariants.{Write, Compare}
 use Rattle.book.specs.declared.call.Answer.{Answer}
-use Rattle.book.specs.declared.call.Answer.TheVariants.{Started, Entered, Filed, Removed, Listed, Refused}
+use Rattle.book.specs.declared.call.Answer.TheVariants.{Refused}
 use Rattle.book.specs.declared.refusal.Refusal.{Refusal}
 use Rattle.book.specs.Refusals.{number}
 use Rattle.book.specs.Books.{Book, Said, object}
@@ -19,6 +19,7 @@ use Rattle.walks.specs.Answers.{both_closed}
 use Rattle.walks.specs.Runs.{Compared}
 use Rattle.jobtext.specs.declared.fault.Blame.{Blame}
 use Rattle.jobtext.specs.declared.fault.Fault.{Fault}
+use Rattle.report.specs.Endings.{accepted}
 use Rattle.report.specs.Reports.{placement_line, pair_line, refusal_line, fault_line}
 
 -- a job has so many items
@@ -37,15 +38,6 @@ compares (Compare c) = true
 -- how many comparisons there are among the requests
 abbrev pub comparisons_in : List Request → ℕ
 comparisons_in rs = count_by compares rs
-
--- was the call accepted?
-abbrev pub accepted : Answer → Bool
-accepted Started = true
-accepted (Entered n) = true
-accepted (Filed n) = true
-accepted (Removed n) = true
-accepted (Listed n t) = true
-accepted (Refused why) = false
 
 module _ {H : Type 0} (begun : Corner → H) (grown : H → Corner → H) (reaches : H → Direction → ℤ) (faced : Type 0) (unrounded : List Corner → Direction → ℤ) (fault : Option Fault) where
   -- from comparison k and this book on, the requests, each with the word that is blamed for it, make this text

@@ -16,6 +16,7 @@ pub fn report(heap: Global, bytes: &[u8]) -> Result<String, AllocError>
     ensures { IfOk result (λ s. Reports bytes.now (string_bytes s)) }
 {
     let script = read(heap, bytes)?;
+    // Each kind has a type of hulls of its own, and a table of functions would be no plainer than these arms.
     match script.kind {
         Some(Kind::Box) => run::<BoxHull>(heap, &script.entries, script.fault),
         Some(Kind::Many) => run::<ManyHull>(heap, &script.entries, script.fault),

@@ -55,11 +55,12 @@ pub(crate) fn run<H: Hull + Clone>(
     let mut table = vec![in heap; blank::<H>(); ITEMS]?;
     let mut answers = vec![in heap; Answer::Started; requests.len()]?;
     let mut lists = vec![in heap; [(0, 0); PAIRS]; count_comparisons(requests)]?;
+    let answers = answers.as_mut_slice();
     let pairs = lists.as_flattened_mut();
-    replay_requests(MARK, &mut table, requests, &mut answers, PAIRS, pairs);
+    replay_requests(MARK, &mut table, requests, answers, PAIRS, pairs);
     let lists = Lists {
         pairs,
         places: PAIRS,
     };
-    render(heap, &answers, &entries.blames, fault, &lists)
+    render(heap, answers, &entries.blames, fault, &lists)
 }

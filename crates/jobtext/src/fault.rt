@@ -11,7 +11,7 @@ pub struct Blame {
     pub word: usize,
 }
 
-// A word that is not the one that is due, or too few or too many words or bytes.
+// A word that is not the one that is due, or too few or too many words or bytes. A report gives the number.
 #[derive(Clone, Copy)]
 pub enum Flaw {
     WrongWord = 12,

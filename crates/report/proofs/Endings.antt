@@ -2,6 +2,7 @@
 use Rattle.std.proofs.Common.{◌≡◌, ℕ, ◌+◌, ◌*◌, List, [], ◌∷◌, ◌++◌, length, take, drop, Option, sym, refl, ap, ◌∙◌, append_assoc, append-nil, arith}
 use Rattle.std.specs.List.{flat_map, AllByRecursion}
 use Rattle.std.proofs.lemmas.List.{take-append-drop, length-take-le}
+use Rattle.std.proofs.lemmas.Bool.{false≢true}
 use Rattle.book.specs.declared.call.Answer.{Answer}
 use Rattle.book.specs.declared.call.Answer.TheVariants.{Started, Entered, Filed, Removed, Listed, Refused}
 use Rattle.jobtext.specs.declared.fault.Blame.{Blame}
@@ -35,7 +36,7 @@ module _ (lists : List (ℕ × ℕ)) (places : ℕ) (fault : Option Fault) where
       let pairs = flat_map pair_line (take count (drop (k * places) lists)) in
       ap (λ l. line ++ (pairs ++ l)) (front_first (k + 1) front rest before behind all.1 (omega arith))
       ∙ sym (append_assoc line (pairs ++ comparisons lists places (k + 1) front) _ ∙ ap (λ l. line ++ l) (append_assoc pairs (comparisons lists places (k + 1) front) _))
-  front_first k (Refused why ∷ front) rest (b ∷ before) behind all long = absurd all.0
+  front_first k (Refused why ∷ front) rest (b ∷ before) behind all long = absurd (false≢true all.0)
 
   -- a report ends with the first refusal, or with the fault of the text
   pub ends : (answers : List Answer) (bs : List Blame) (report : List ℕ) → report ≡ report_of lists places fault answers bs → Ends lists places fault answers bs report

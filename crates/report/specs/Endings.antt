@@ -1,5 +1,5 @@
 -- How a report ends: with all that was compared, and then the first refusal or the fault of the text.
-use Rattle.std.specs.Prelude.{◌≡◌, ℕ, ◌+◌, ◌*◌, ◌≤◌, List, [], ◌∷◌, ◌++◌, length, take, drop, Option}
+use Rattle.std.specs.Prelude.{◌≡◌, ℕ, ◌+◌, ◌*◌, ◌≤◌, Bool, true, false, IsTrue, List, [], ◌∷◌, ◌++◌, length, take, drop, Option}
 use Rattle.std.specs.List.{flat_map, AllByRecursion}
 use Rattle.book.specs.declared.call.Answer.{Answer}
 use Rattle.book.specs.declared.call.Answer.TheVariants.{Started, Entered, Filed, Removed, Listed, Refused}
@@ -9,14 +9,18 @@ use Rattle.jobtext.specs.declared.fault.Blame.{Blame}
 use Rattle.jobtext.specs.declared.fault.Fault.{Fault}
 use Rattle.report.specs.Reports.{placement_line, pair_line, refusal_line, fault_line}
 
+-- was the call accepted?
+abbrev pub accepted : Answer → Bool
+accepted Started = true
+accepted (Entered n) = true
+accepted (Filed n) = true
+accepted (Removed n) = true
+accepted (Listed count tests) = true
+accepted (Refused why) = false
+
 -- the answer is no refusal
 abbrev pub Accepted : Answer → Type 0
-Accepted Started = Unit {0}
-Accepted (Entered n) = Unit {0}
-Accepted (Filed n) = Unit {0}
-Accepted (Removed n) = Unit {0}
-Accepted (Listed count tests) = Unit {0}
-Accepted (Refused why) = ⊥
+Accepted a = IsTrue (accepted a)
 
 module _ (lists : List (ℕ × ℕ)) (places : ℕ) where
   -- the lines of all comparisons among the answers, the first of them with the number k
