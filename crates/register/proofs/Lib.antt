@@ -4,6 +4,7 @@ pub mod Turns
 pub mod Flagging
 pub mod Entering
 pub mod Clearing
+pub mod Pushing
 pub mod Walks
 pub mod Shelf
 pub mod Comparing

@@ -10,6 +10,7 @@ mod history;
 mod place;
 mod register;
 mod requests;
+mod stack;
 mod ties;
 mod walk;
 

@@ -12,15 +12,12 @@ ghost use Rattle.register.specs.Registers.{book_of, entered, Filled, FilledBy, t
 use super::draft::Draft;
 use super::place::Place;
 use super::register::Register;
-use arrayvec::ArrayVec;
+use super::stack::Stack;
 use book::{Facet, Item, Refusal};
 use hull::Hull;
 
 // An item is at most so high.
 const HEIGHT: u8 = 32;
-
-// So many items wait at most: one for each level, and one.
-const WAITING: usize = 33;
 
 // The number as one of so many, counted from 0.
 pub(crate) fn number_below(n: i64, count: usize) -> Option<usize>
@@ -67,7 +64,8 @@ fn over_item<H: Hull>(page: &[Place<H>], hull: H, y: u32) -> H
     requires { (sane (items_of page.now) ≡ true) × (y < length page.now) }
     ensures { result ≡ fold H.grown hull (corners (tree (items_of page.now) y)) }
 {
-    let mut stack = ArrayVec::<u32, WAITING>::new();
+    let mut places = [0u32; 33];
+    let mut stack = Stack::over(&mut places);
     stack.push(y);
     let mut grown = hull;
     while let Some(i) = stack.pop() {

@@ -6,10 +6,9 @@ ghost use Rattle.walks.specs.Parts.{facets?, below};
 ghost use Rattle.walks.specs.Answers.{WalkedInto};
 ghost use Rattle.register.specs.Tables.{items_of};
 ghost use Rattle.register.specs.Comparing.{WalkStored};
-ghost use Rattle.arrayvec.specs.ArrayVec.{array_vec_len};
 
 use super::place::Place;
-use arrayvec::ArrayVec;
+use super::stack::Stack;
 use axes::Axes;
 use book::{Item, Refusal};
 use hull::Hull;
@@ -20,15 +19,16 @@ const WAITING: usize = 97;
 
 // The pairs that two items lead to wait, the first to be walked on top. Two facets lead to none.
 fn push_parts(
-    stack: &mut ArrayVec<(u32, u32), WAITING>,
+    stack: &mut Stack<'_, (u32, u32)>,
     i: u32,
     j: u32,
     moved: Item,
     standing: Item,
 ) -> bool
-    requires { facets? moved standing ≡ false → array_vec_len stack.old + 4 ≤ WAITING }
+    requires { facets? moved standing ≡ false → stack.old.len + 4 ≤ length stack.old.places.now }
     ensures parts { result ≡ not (facets? moved standing) }
-    ensures held { stack.new.items ≡ stack.old.items ++ below i j moved standing }
+    ensures held { take stack.new.len stack.new.places.now ≡ take stack.old.len stack.old.places.now ++ below i j moved standing }
+    ensures room { length stack.new.places.now ≡ length stack.old.places.now }
 {
     match (moved, standing) {
         (Item::Facet(_), Item::Facet(_)) => return false,
@@ -62,7 +62,8 @@ pub(crate) fn walk<H: Hull>(
     requires standing { (complete (items_of standing.now) ≡ true) × (length standing.now ≤ place_limit) }
     ensures { WalkedInto (WalkStored H.reaches moved.now standing.now axes.now.placement) pairs.old pairs.new result }
 {
-    let mut stack = ArrayVec::new();
+    let mut places = [(0u32, 0u32); WAITING];
+    let mut stack = Stack::over(&mut places);
     stack.push(((moved.len() - 1) as u32, (standing.len() - 1) as u32));
     let mut count = 0;
     let mut tests = 0;
