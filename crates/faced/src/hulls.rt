@@ -18,7 +18,7 @@ pub struct FacedHull<const N: usize> {
 
 impl<const N: usize> Hull for FacedHull<N>
 where
-    FacedHull<N>: Weighted<N>,
+    Self: Weighted<N>,
 {
     ghost begun = { begun_on N };
 

@@ -1,5 +1,5 @@
 -- The list of faces, by tests that are computed at all entries -1, 0 and 1.
-use Rattle.std.proofs.Common.{◌≡◌, ℕ, zero, suc, ◌+◌, ◌*◌, ◌≤◌, Bool, true, ◌&&◌, eqb, List, [], ◌∷◌, get_or, ℤ, pos, negsuc, ◌+ℤ◌, nat_abs, refl, arith}
+use Rattle.std.proofs.Common.{◌≡◌, ℕ, zero, suc, ◌≤◌, Bool, true, ◌&&◌, eqb, List, [], ◌∷◌, get_or, ℤ, pos, negsuc, ◌+ℤ◌, nat_abs, refl, arith}
 use Rattle.std.proofs.lemmas.Bool.{and_parts, eqb-true}
 use Rattle.hull.specs.declared.face.Face.{Face}
 use Rattle.hull.specs.Faces.{face, place, Small}
@@ -31,14 +31,19 @@ at_face t p f s =
     (at3 (λ y. all3 (λ z. t (face f.x y z))) (at3 (λ x. all3 (λ y. all3 (λ z. t (face x y z)))) p f.x s.small_x) f.y s.small_y)
     f.z s.small_z
 
--- the places by the entries in base 3
-abbrev places : List ℕ
+-- the places by the entries, each one more than it is
+abbrev places : List (List (List ℕ))
 places =
-    25 ∷ 9 ∷ 24 ∷ 13 ∷ 1 ∷ 12 ∷ 23 ∷ 8 ∷ 22 ∷ 17 ∷ 3 ∷ 16 ∷ 5 ∷ 26 ∷ 4 ∷ 15 ∷ 2 ∷ 14 ∷ 21 ∷ 7 ∷ 20 ∷ 11 ∷ 0 ∷ 10 ∷ 19 ∷ 6 ∷ 18 ∷ []
+    ((25 ∷ 9 ∷ 24 ∷ []) ∷ (13 ∷ 1 ∷ 12 ∷ []) ∷ (23 ∷ 8 ∷ 22 ∷ []) ∷ [])
+    ∷ ((17 ∷ 3 ∷ 16 ∷ []) ∷ (5 ∷ 26 ∷ 4 ∷ []) ∷ (15 ∷ 2 ∷ 14 ∷ []) ∷ [])
+    ∷ ((21 ∷ 7 ∷ 20 ∷ []) ∷ (11 ∷ 0 ∷ 10 ∷ []) ∷ (19 ∷ 6 ∷ 18 ∷ []) ∷ []) ∷ []
 
-abbrev code : Face → ℕ
-code f = 9 * nat_abs (f.x +ℤ pos 1) + 3 * nat_abs (f.y +ℤ pos 1) + nat_abs (f.z +ℤ pos 1)
+abbrev index : ℤ → ℕ
+index z = nat_abs (z +ℤ pos 1)
 
-pub place_is : (f : Face) → Small f → get_or places (code f) 0 ≡ place f
+abbrev found : Face → ℕ
+found f = get_or (get_or (get_or places (index f.x) []) (index f.y) []) (index f.z) 0
+
+pub place_is : (f : Face) → Small f → found f ≡ place f
 unfolding place
-place_is f s = eqb-true (get_or places (code f) 0) (place f) (at_face (λ f. eqb (get_or places (code f) 0) (place f)) refl f s)
+place_is f s = eqb-true (found f) (place f) (at_face (λ f. eqb (found f) (place f)) refl f s)

@@ -8,10 +8,11 @@ use super::face::{Face, FaceWeight, Weight};
 
 const WEIGHT_UNIT: u32 = 64;
 
-// Where a face stands in the list of faces, by its entries in base 3; no face stands past the end.
-const PLACES: [u8; 27] = [
-    25, 9, 24, 13, 1, 12, 23, 8, 22, 17, 3, 16, 5, 26, 4, 15, 2, 14, 21, 7, 20, 11, 0, 10, 19, 6,
-    18,
+// Where a face stands in the list of faces, by its entries, each one more than it is; no face stands past the end.
+const PLACES: [[[u8; 3]; 3]; 3] = [
+    [[25, 9, 24], [13, 1, 12], [23, 8, 22]],
+    [[17, 3, 16], [5, 26, 4], [15, 2, 14]],
+    [[21, 7, 20], [11, 0, 10], [19, 6, 18]],
 ];
 
 // The face that looks the other way. Not `-f`, nor `e + f` below: an operator would be public, and allowed at small faces alone.
@@ -58,8 +59,8 @@ fn sort(a: Weight, b: Weight, c: Weight) -> (Weight, Weight, Weight)
     }
 }
 
-// An entry of a face as a digit in base 3.
-fn digit(z: i8) -> usize
+// An entry of a face as an index.
+fn index(z: i8) -> usize
     requires { unsigned_abs z ≤ 1 }
     ensures { (result ≡ unsigned_abs (z +ℤ pos 1)) × (result ≤ 2) }
 {
@@ -71,7 +72,7 @@ fn place_of(f: Face) -> u8
     requires { Small f }
     ensures { result ≡ place f }
 {
-    PLACES[9 * digit(f.x) + 3 * digit(f.y) + digit(f.z)]
+    PLACES[index(f.x)][index(f.y)][index(f.z)]
 }
 
 // A weight as a direction keeps it.

@@ -25,7 +25,7 @@ fn square(z: i64) -> u64
     integers::square(z.unsigned_abs() as u32)
 }
 
-// The root of the sum of the squares, rounded up.
+// The root of the sum of the squares, rounded up. A type of three entries in range would be a direction with nothing else in it.
 fn length_of(x: i64, y: i64, z: i64) -> u32
     requires { Within direction_limit x y z }
     ensures { result ≡ root_up (squared x y z) }

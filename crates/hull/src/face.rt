@@ -1,6 +1,6 @@
 // A face of a hull, and a weight on it.
 
-// A face, by the direction in which it looks: entries -1, 0 and 1.
+// A face, by the direction in which it looks: entries -1, 0 and 1. No ghost field says so, since the rule of weights adds faces up.
 #[derive(Clone, Copy)]
 pub struct Face {
     pub x: i8,

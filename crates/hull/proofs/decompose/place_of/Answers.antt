@@ -8,4 +8,4 @@ returns c =
     let x : SFits w8 c.args.f.x = search rules in
     let y : SFits w8 c.args.f.y = search rules in
     let z : SFits w8 c.args.f.z = search rules in
-    simp (c.digit.ensures.0, c.digit-2.ensures.0, c.digit-3.ensures.0, to_z-of_z) (place_is c.args.f c.requires)
+    simp (c.index.ensures.0, c.index-2.ensures.0, c.index-3.ensures.0, to_z-of_z) (place_is c.args.f c.requires)
