@@ -39,11 +39,14 @@ fn fixed_axis(i: usize) -> FixedAxis
     FixedAxis { x, y, z }
 }
 
+// The matrix times a fixed axis is divided by this.
+const AXIS_UNIT: i64 = 4096;
+
 // A 4,096th, rounded down.
 fn floor(z: i64) -> i64
     ensures { result ≡ div_down z axis_unit }
 {
-    z >> 12
+    z.div_euclid(AXIS_UNIT)
 }
 
 // The product of a row and a fixed axis, divided and rounded down.

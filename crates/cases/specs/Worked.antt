@@ -11,9 +11,9 @@ use Rattle.hull.specs.Weights.{weight, many_weights_lem}
 use Rattle.hull.specs.Directions.{direction}
 use Rattle.support.specs.Supports.{kept, rounded}
 use Rattle.faced.specs.Hulls.{box_begun, box_grown, box_reach}
-use Rattle.placement.specs.Units.{W, matrix_limit, shift_limit}
+use Rattle.placement.specs.Units.{W, shift_limit}
 use Rattle.placement.specs.declared.parts.Placement.{Placement}
-use Rattle.placement.specs.Parts.{Row}
+use Rattle.placement.specs.Parts.{triple}
 use Rattle.book.specs.declared.item.Facet.{Facet}
 use Rattle.book.specs.Trees.{leaf}
 use Rattle.walks.specs.Walks.{Walk}
@@ -40,17 +40,13 @@ upward = direction (pos 0) (pos 0) (pos 1048576) (leb→le 0 direction_limit tt)
 abbrev pub flat : (z : ℤ) → T (nat_le (unsigned_abs z) corner_limit) → Facet
 flat z h = record { a = corner (pos 0) (pos 0) z tt tt h; b = corner (pos 40) (pos 0) z tt tt h; c = corner (pos 0) (pos 40) z tt tt h }
 
--- a row of the matrix that turns nothing
-abbrev row : (x y z : ℕ) → T (nat_le x matrix_limit) → T (nat_le y matrix_limit) → T (nat_le z matrix_limit) → Row
-row x y z a b c = record { x = pos x; y = pos y; z = pos z; x_in = leb→le x matrix_limit a; y_in = leb→le y matrix_limit b; z_in = leb→le z matrix_limit c }
-
 -- the placement that turns nothing and lifts by t
 abbrev pub lifted : (t : ℕ) → T (nat_le t shift_limit) → Placement
 lifted t h = record {
-  x = row W 0 0 tt tt tt;
-  y = row 0 W 0 tt tt tt;
-  z = row 0 0 W tt tt tt;
-  shift = record { x = pos 0; y = pos 0; z = pos t; x_in = leb→le 0 shift_limit tt; y_in = leb→le 0 shift_limit tt; z_in = leb→le t shift_limit h };
+  x = triple (pos W) (pos 0) (pos 0) tt tt tt;
+  y = triple (pos 0) (pos W) (pos 0) tt tt tt;
+  z = triple (pos 0) (pos 0) (pos W) tt tt tt;
+  shift = triple (pos 0) (pos 0) (pos t) tt tt h;
 }
 
 -- with boxes, and the moved facet lifted by t, the walk lists these pairs after one test

@@ -1,8 +1,7 @@
 -- The list of a placement's axes.
-use Rattle.std.proofs.Common.{◌≡◌, ℕ, zero-le, Bool, true, false, T, ◌+◌, ◌-◌, ◌<◌, ◌≤◌, List, [], ◌∷◌, ◌++◌, map, length, get_or, ℤ, sym, refl, ap, ◌∙◌, subst, arith}
-use Rattle.std.specs.Prelude.{MatchBool}
-use Rattle.std.specs.List.{AllWithin, HoldsAt}
-use Rattle.std.proofs.ByRecursion.{has_get_or}
+use Rattle.std.proofs.Common.{◌≡◌, ℕ, ◌+◌, ◌-◌, ◌<◌, ◌≤◌, List, [], ◌∷◌, ◌++◌, map, length, get_or, ℤ, sym, refl, ap, ◌∙◌, subst, arith}
+use Rattle.std.specs.List.{AllByRecursion}
+use Rattle.std.proofs.ByRecursion.{All-get_or, has_get_or}
 use Rattle.std.proofs.lemmas.List.{get_or-map, get_or_append_left, get_or-append_right, same_lists, length-map}
 use Rattle.hull.specs.declared.direction.Direction.{Direction}
 use Rattle.placement.specs.declared.parts.Placement.{Placement}
@@ -50,21 +49,13 @@ module _ (p : Placement) where
 
     -- a search through it, for the reaches f and g
     module _ (f g : Direction → ℤ) where
-      some_parts : (i : ℕ) × (i < length each) × HoldsAt (Parts f g) each i → Parted f g p
+      pub some_parts : (i : ℕ) (d : SeparatingAxis) → i < axis_count → Parts f g (get_or each i d) → Parted f g p
       unfolding Parted axis_at
-      some_parts (i, k, h) =
-          let m : i < axis_count = subst (λ (n : ℕ). i < n) each_length k in
-          let d = rounded_axis p no_axis in
-          (axis_at p i, has_get_or (axes_of_lem p) i no_axis (subst (λ (n : ℕ). i < n) (sym axes_length) m), subst (Parts f g) (each_at i d m) (h d))
+      some_parts i d h k = (axis_at p i, has_get_or (axes_of_lem p) i no_axis (subst (λ (n : ℕ). i < n) (sym axes_length) h), subst (Parts f g) (each_at i d h) k)
 
-      none_parts : AllWithin (λ s. Parts f g s → ⊥) each 0 (length each) → Parted f g p → ⊥
+      pub none_parts : AllByRecursion (λ s. Parts f g s → ⊥) each → Parted f g p → ⊥
       unfolding Parted axis_at
       none_parts h (l, (i, k, at), parts) =
           let m : i < axis_count = subst (λ (n : ℕ). i < n) axes_length k in
           let e = each_at i (rounded_axis p l) m ∙ ap (rounded_axis p) (at no_axis) in
-          h i (rounded_axis p l) zero-le (subst (λ (n : ℕ). i < n) (sym each_length) m) (subst (Parts f g) (sym e) parts)
-
-      -- so it finds an axis where there is one, and none where there is none
-      pub search_parts : (found : Bool) → MatchBool found ((i : ℕ) × (i < length each) × HoldsAt (Parts f g) each i) (AllWithin (λ s. Parts f g s → ⊥) each 0 (length each)) → (T found → Parted f g p) × (Parted f g p → T found)
-      search_parts true h = (λ _. some_parts h, λ _. tt)
-      search_parts false h = (λ t. absurd t, none_parts h)
+          All-get_or (λ s. Parts f g s → ⊥) each i (rounded_axis p l) (subst (λ (n : ℕ). i < n) (sym each_length) m) h (subst (Parts f g) (sym e) parts)

@@ -1,26 +1,19 @@
 -- Worked examples: a turn of about 53 degrees, and its axis 15.
-use Rattle.std.proofs.Common.{◌≡◌, T, leb, ℤ, pos, negsuc, nat_abs, refl, leb→le}
+use Rattle.std.proofs.Common.{◌≡◌, ℤ, pos, negsuc, refl}
 use Rattle.hull.specs.Directions.{direction}
 use Rattle.placement.specs.declared.parts.Placement.{Placement}
-use Rattle.placement.specs.Parts.{Row, Shift}
-use Rattle.placement.specs.Units.{matrix_limit, shift_limit}
+use Rattle.placement.specs.Parts.{triple}
 use Rattle.pairs.specs.Records.{Axis}
 use Rattle.pairs.specs.Products.{shift_along}
 use Rattle.pairs.specs.Axes.{axis_at, axes_of_lem, turned}
 use Rattle.pairs.specs.Directions.{moved_direction, moved_size, standing_size}
 
-abbrev row : (x y z : ℤ) → T (leb (nat_abs x) matrix_limit) → T (leb (nat_abs y) matrix_limit) → T (leb (nat_abs z) matrix_limit) → Row
-row x y z f g h = record { x = x; y = y; z = z; x_in = leb→le (nat_abs x) matrix_limit f; y_in = leb→le (nat_abs y) matrix_limit g; z_in = leb→le (nat_abs z) matrix_limit h }
-
-abbrev shift : (x y z : ℤ) → T (leb (nat_abs x) shift_limit) → T (leb (nat_abs y) shift_limit) → T (leb (nat_abs z) shift_limit) → Shift
-shift x y z f g h = record { x = x; y = y; z = z; x_in = leb→le (nat_abs x) shift_limit f; y_in = leb→le (nat_abs y) shift_limit g; z_in = leb→le (nat_abs z) shift_limit h }
-
 abbrev p : Placement
 p = record {
-  x = row (pos 629146) (negsuc 838860) (pos 0) tt tt tt;
-  y = row (pos 838861) (pos 629146) (pos 0) tt tt tt;
-  z = row (pos 0) (pos 0) (pos 1048576) tt tt tt;
-  shift = shift (negsuc 179999) (negsuc 2047) (pos 0) tt tt tt;
+  x = triple (pos 629146) (negsuc 838860) (pos 0) tt tt tt;
+  y = triple (pos 838861) (pos 629146) (pos 0) tt tt tt;
+  z = triple (pos 0) (pos 0) (pos 1048576) tt tt tt;
+  shift = triple (negsuc 179999) (negsuc 2047) (pos 0) tt tt tt;
 }
 
 -- L = (-205, 153, 0)
