@@ -4,7 +4,6 @@ pub mod Turns
 pub mod Flagging
 pub mod Entering
 pub mod Clearing
-pub mod Pushing
 pub mod Walks
 pub mod Shelf
 pub mod Comparing

@@ -19,6 +19,9 @@ use hull::Hull;
 // An item is at most so high.
 const HEIGHT: u8 = 32;
 
+// So many items wait at most: one for each level, and one.
+const WAITING: usize = 33;
+
 // The number as one of so many, counted from 0.
 pub(crate) fn number_below(n: i64, count: usize) -> Option<usize>
     ensures { MatchOption result ((k : ℕ) → n ≡ pos k → count ≤ k) (λ k. (n ≡ pos k) × (k < count)) }
@@ -64,7 +67,7 @@ fn over_item<H: Hull>(page: &[Place<H>], hull: H, y: u32) -> H
     requires { (sane (items_of page.now) ≡ true) × (y < length page.now) }
     ensures { result ≡ fold H.grown hull (corners (tree (items_of page.now) y)) }
 {
-    let mut places = [0u32; 33];
+    let mut places = [0u32; WAITING];
     let mut stack = Stack::over(&mut places);
     stack.push(y);
     let mut grown = hull;

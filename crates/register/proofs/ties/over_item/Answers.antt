@@ -37,12 +37,6 @@ loop-i-preserved-in-Facet g c = record {
   growing = rw c.over_facet-grown.ensures (facet_turn _ _ _ _ _ _ _ c.in-Some.ensures.held c.loop-i.invariant.growing c.index-page-i.result c.index-page-i.is c.in-Facet.facet c.in-Facet.is);
 }
 
-pub push-requires-in-Tie : goal.push-requires-in-Tie
-push-requires-in-Tie g c =
-    let s = c.pop.new.self in
-    let r = tie_room _ _ _ _ _ _ _ c.in-Some.ensures.held c.loop-i.invariant.growing c.index-page-i.result c.index-page-i.is c.requires.0 c.in-Tie.a c.in-Tie.b c.in-Tie.is in
-    omega (arith, r, length-take-le s.len s.places.now s.within, c.in-Some.ensures.room, c.loop-i.invariant.room)
-
 pub push-requires-in-Tie-2 : goal.push-requires-in-Tie-2
 push-requires-in-Tie-2 g c =
     let s = c.pop.new.self in
