@@ -1,5 +1,6 @@
 // Reads the bytes of a job.
 #![tactic(auto)]
+
 ghost use Rattle.std.specs.Prelude.{◌≡◌, ◌+◌, ◌≤◌, length, take, IfOk, IfSome};
 ghost use Rattle.jobtext.specs.Words.{job_limit};
 

@@ -6,7 +6,7 @@ use Rattle.std.proofs.lemmas.Bool.{cases_Bool, ltb-true, leb-true}
 use Rattle.jobtext.specs.declared.fault.Fault.{Fault}
 use Rattle.jobtext.specs.declared.fault.Flaw.TheVariants.{WrongWord}
 use Rattle.jobtext.specs.declared.section.Section.{Section}
-use Rattle.jobtext.specs.Due.{Misfit, Numbered, AllNumbered, BrokenOff}
+use Rattle.jobtext.specs.Due.{Misfit, Counted, Numbered, AllNumbered, BrokenOff}
 use Rattle.jobtext.specs.Numbers.{Count, is_count, count_of, negative, digits, signed, Number, amount, number_of}
 use Rattle.jobtext.specs.Readings.{Read, Reads, found, due, follow, numbers}
 use Rattle.jobtext.specs.Words.{Word}
@@ -78,9 +78,17 @@ module _ {X : Type 0} (of : Word → Option X) (Right : Word → Type 0) (Worth 
       by (Some x) is = let worth = said w x is in (w, refl, worth.0, worth.1)
       by None is = (wrong w is, refl)
 
+-- a count is due
+pub counted : (s : Section) (k : ℕ) (ws left : List Word) (r : Result ℕ Fault) → Reads (due count_of s k ws) r left → MatchResult r (λ n. Counted ws n left) (λ e. Misfit Count ws s k e)
+counted s k ws left r told =
+    answered (Counted ws) (Misfit Count ws s k) (due count_of s k ws) r left (due_says count_of Count (λ n w. n ≡ digits_value 10 w) count_said count_not s k ws) told
+
 -- a number is due
 number_says : (s : Section) (k : ℕ) (ws : List Word) → Says (Numbered ws) (Misfit Number ws s k) (due number_of s k ws)
 number_says s k ws = due_says number_of Number (λ z w. z ≡ amount w) number_said number_not s k ws
+
+pub numbered : (s : Section) (k : ℕ) (ws left : List Word) (r : Result ℤ Fault) → Reads (due number_of s k ws) r left → MatchResult r (λ z. Numbered ws z left) (λ e. Misfit Number ws s k e)
+numbered s k ws left r told = answered (Numbered ws) (Misfit Number ws s k) (due number_of s k ws) r left (number_says s k ws) told
 
 numbers_say : (n : ℕ) (s : Section) (k : ℕ) (ws : List Word) → Says (AllNumbered ws) (BrokenOff n ws s k) (numbers n s k ws)
 unfolding numbers

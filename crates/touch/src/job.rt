@@ -61,10 +61,7 @@ fn compare<H: Hull>(heap: Global, input: &mut Words, report: &mut String) -> Res
     let standing: H = read_object(input, Section::Facets2, Section::Ties2)?;
     let count = input.count(Section::Placements)?;
     for index in 0..count {
-        let axes = Axes::new(read_row::<Placement, 12>(
-            input,
-            Fault::PlacementOutOfRange,
-        )?);
+        let axes = Axes::new(read_row::<Placement, 12>(input, Fault::PlacementOutOfRange)?);
         let lines = placement_lines(heap, index, parted(&axes, &moved, &standing))?;
         report.push_str(lines.as_str())?;
     }

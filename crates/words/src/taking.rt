@@ -1,12 +1,13 @@
 // The words of a job, taken one by one.
-ghost use Rattle.std.specs.Prelude.{◌≡◌, ◌+◌, ◌<◌, ◌≤◌, [], ◌∷◌, ◌++◌, length, Ok, Err, MatchOption, MatchResult, OnOk, ◌≢◌};
+ghost use Rattle.std.specs.Prelude.{◌≡◌, ◌+◌, ◌<◌, ◌≤◌, [], ◌∷◌, ◌++◌, length, Ok, Err, MatchOption, MatchResult, OnOk, Option, ◌≢◌};
+ghost use Rattle.std.specs.Fn.{FnReturnsAt};
 ghost use Rattle.jobtext.specs.declared.fault.Flaw.TheVariants.{WrongLength};
 ghost use Rattle.jobtext.specs.declared.section.Section.TheVariants.{Kind as KindSection};
 ghost use Rattle.jobtext.specs.Due.{Misfit, Counted, Numbered, AllNumbered, BrokenOff};
 ghost use Rattle.jobtext.specs.Numbers.{Count, count_of, Number, number_of};
 ghost use Rattle.jobtext.specs.Readings.{Reads, found, due, headed, numbers, finished, still};
 ghost use Rattle.jobtext.specs.Sections.{opens, opening, kind_of};
-ghost use Rattle.jobtext.specs.Words.{job_limit, separator, ended, words};
+ghost use Rattle.jobtext.specs.Words.{Word, job_limit, separator, ended, words};
 ghost use Rattle.words.specs.Progress.{untaken};
 
 use super::number::{read_count, read_number};
@@ -50,7 +51,10 @@ fn split_word(bytes: &[u8]) -> (&[u8], &[u8])
 {
     let separators = bytes.iter().take_while(|byte| is_separator(**byte)).count();
     let (_, front) = bytes.split_at(separators);
-    let letters = front.iter().take_while(|byte| !is_separator(**byte)).count();
+    let letters = front
+        .iter()
+        .take_while(|byte| !is_separator(**byte))
+        .count();
     front.split_at(letters)
 }
 
@@ -144,12 +148,18 @@ impl<'a> Words<'a> {
         }
     }
 
-    // A kind is due.
-    fn kind_word(&mut self) -> Result<Kind, Fault>
-        ensures { Reads (due kind_of self.old.section (self.old.taken + 1) self.old.left) result self.new.left }
+    // The word that is due, and what it is worth.
+    fn due<T, F: Fn(&[u8]) -> Option<T>>(&mut self, worth: F) -> Result<T, Fault>
+        requires { F.IsAlwaysCallable worth }
+        ensures section { self.new.section ≡ self.old.section }
+        ensures taken { OnOk result (self.new.taken ≡ self.old.taken + 1) }
+        ensures reads { (of : Word → Option T) → ((w : Word) (r : Option T) → FnReturnsAt F.Fn worth w r → r ≡ of w) → Reads (due of self.old.section (self.old.taken + 1) self.old.left) result self.new.left }
     {
         let word = self.word()?;
-        Kind::from_word(word).ok_or(self.flawed(Flaw::WrongWord))
+        match worth(word) {
+            Some(value) => Ok(value),
+            None => Err(self.flawed(Flaw::WrongWord)),
+        }
     }
 
     // A count is due.
@@ -159,8 +169,7 @@ impl<'a> Words<'a> {
         ensures reads { Reads (due count_of self.old.section (self.old.taken + 1) self.old.left) result self.new.left }
         ensures cases { MatchResult result (λ n. Counted self.old.left n self.new.left) (λ e. Misfit Count self.old.left self.old.section (self.old.taken + 1) e) }
     {
-        let word = self.word()?;
-        read_count(word).ok_or(self.flawed(Flaw::WrongWord))
+        self.due(read_count)
     }
 
     // The section of the kind is due.
@@ -168,7 +177,7 @@ impl<'a> Words<'a> {
         ensures { Reads (headed kind_of KindSection self.old.left) result self.new.left }
     {
         self.open(Section::Kind)?;
-        self.kind_word()
+        self.due(Kind::from_word)
     }
 
     // The name and the count of a section are due.
@@ -188,8 +197,7 @@ impl<'a> Words<'a> {
         ensures reads { Reads (due number_of self.old.section (self.old.taken + 1) self.old.left) result self.new.left }
         ensures cases { MatchResult result (λ n. Numbered self.old.left n self.new.left) (λ e. Misfit Number self.old.left self.old.section (self.old.taken + 1) e) }
     {
-        let word = self.word()?;
-        read_number(word).ok_or(self.flawed(Flaw::WrongWord))
+        self.due(read_number)
     }
 
     // So many numbers are due.

@@ -2,7 +2,7 @@ use Rattle.std.proofs.Common.{refl, ap, ◌∙◌}
 use Rattle.std.proofs.lemmas.Result.{err_from_is_err_and}
 use Rattle.jobtext.specs.Forms.{facet}
 use Rattle.jobtext.specs.Readings.{facets_of}
-use Rattle.script.proofs.Growth.{ran_out, grown_at, rows_at, asked_ran, then_fault, then_ran}
+use Rattle.script.proofs.Growth.{grown_at, rows_at, asked_ran, then_fault, then_ran}
 use Rattle.script.proofs.reader.Reader.facets.Goals as goal
 
 pub returns-in_err-count : goal.returns-in_err-count

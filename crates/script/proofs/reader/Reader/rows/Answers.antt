@@ -1,9 +1,9 @@
-use Rattle.std.proofs.Common.{◌≡◌, ◌+◌, ◌-◌, ◌*◌, [], ◌∷◌, ◌++◌, sym, refl, ap, ◌∙◌, add-mul, arith}
-use Rattle.std.proofs.lemmas.Result.{err_from_is_err_and, IfOk-from_err}
+use Rattle.std.proofs.Common.{◌+◌, ◌-◌, [], ◌∷◌, ◌++◌, sym, ap, ◌∙◌, add-mul, arith}
+use Rattle.std.proofs.lemmas.Result.{err_from_is_err_and}
 use Rattle.jobtext.specs.Readings.{before, rows}
-use Rattle.jobtext.proofs.Rows.{asked_at, rows_none, rows_more, rows_stop, rows_done}
+use Rattle.jobtext.proofs.Rows.{asked_at, rows_more, rows_stop, rows_done}
 use Rattle.words.specs.Progress.{Progress}
-use Rattle.script.proofs.Growth.{grown_none, grown_more, ran_done, ran_fault, ran_out}
+use Rattle.script.proofs.Growth.{grown_more, ran_done, ran_fault}
 use Rattle.script.proofs.reader.Reader.rows.Goals as goal
 
 pub loop-row-preserved : goal.loop-row-preserved
@@ -22,7 +22,7 @@ loop-row-preserved g c =
       ap (λ p. p.section) put.input ∙ told.section ∙ inv.2,
       omega (arith, ap (λ (p : Progress). p.taken) put.input, told.taken, inv.3, add-mul i 1 f.width),
       ap (λ p. before (inv.0 ++ (asked_at mid.section mid.taken q ∷ [])) (rows f m p.section p.taken p.left)) put.input
-      ∙ (λ j. before (inv.0 ++ (asked_at (told.section j) (told.taken j) q ∷ [])) (rows f m (told.section j) (told.taken j) mid.left)) ∙ sym step ∙ inv.4,
+          ∙ (λ j. before (inv.0 ++ (asked_at (told.section j) (told.taken j) q ∷ [])) (rows f m (told.section j) (told.taken j) mid.left)) ∙ sym step ∙ inv.4,
     )
 
 pub returns-in_err-request-clause-ran : goal.returns-in_err-request-clause-ran

@@ -2,7 +2,7 @@ use Rattle.std.proofs.Common.{◌+◌, ◌*◌, Ok, sym, refl, ap, ◌∙◌}
 use Rattle.std.proofs.lemmas.Result.{err_from_is_err_and}
 use Rattle.jobtext.specs.Forms.{tie}
 use Rattle.jobtext.specs.Readings.{ties_of}
-use Rattle.script.proofs.Growth.{ran_out, grown_none, grown_at, rows_at, asked_ran, then_fault, then_ran, onward_ran, onward_stop}
+use Rattle.script.proofs.Growth.{grown_none, grown_at, rows_at, asked_ran, then_fault, then_ran, onward_ran, onward_stop}
 use Rattle.script.proofs.reader.Reader.ties.Goals as goal
 
 pub returns-in_err-count : goal.returns-in_err-count

@@ -1,18 +1,6 @@
-use Rattle.std.proofs.Common.{◌∙◌}
-use Rattle.std.proofs.lemmas.Result.{err_from_is_err_and}
-use Rattle.jobtext.specs.declared.fault.Flaw.TheVariants.{WrongWord}
-use Rattle.jobtext.specs.Numbers.{count_of}
-use Rattle.jobtext.specs.Readings.{found}
-use Rattle.jobtext.proofs.Dues.{due_missing, due_told}
+use Rattle.std.proofs.Common.{rules}
+use Rattle.jobtext.proofs.Told.{counted}
 use Rattle.words.proofs.taking.Words.count_word.Goals as goal
 
-pub returns-in_err-word-clause-reads : goal.returns-in_err-word-clause-reads
-returns-in_err-word-clause-reads c =
-    let told = c.in_err-word.ensures in
-    let p = err_from_is_err_and c.from_residual.result c.from_residual.ensures.1 in
-    due_missing count_of _ _ _ _ _ _ told.cases.0 (p.2 ∙ told.cases.1) p.1
-
-pub returns-clause-reads : goal.returns-clause-reads
-returns-clause-reads c =
-    let told = c.in_ok-word.ensures in
-    due_told count_of _ _ _ _ _ _ _ _ told.cases.0 c.read_count.ensures.value (c.flawed.ensures ∙ (λ i. found WrongWord (told.section i) (told.cases.1 i))) c.ok_or.ensures.value
+pub returns-clause-cases : goal.returns-clause-cases
+returns-clause-cases c = counted _ _ _ _ _ (search rules)
