@@ -6,24 +6,8 @@ use Rattle.book.specs.declared.call.Answer.TheVariants.{Started, Entered, Filed,
 use Rattle.book.specs.Refusals.{number}
 use Rattle.jobtext.specs.declared.fault.Blame.{Blame}
 use Rattle.jobtext.specs.declared.fault.Fault.{Fault}
-use Rattle.jobtext.specs.declared.fault.Flaw.{Flaw}
-use Rattle.jobtext.specs.declared.fault.Flaw.TheVariants.{WrongWord, WrongLength}
-use Rattle.jobtext.specs.declared.section.Section.{Section}
-use Rattle.jobtext.specs.declared.section.Section.TheVariants.{Kind, Facets, Ties, Facets2, Ties2, Placements}
-
--- the name of a section in a report
-abbrev pub name : Section → List ℕ
-name Kind = codes "kind"
-name Facets = codes "facets"
-name Ties = codes "ties"
-name Facets2 = codes "facets2"
-name Ties2 = codes "ties2"
-name Placements = codes "placements"
-
--- the number of a fault of the text
-abbrev pub flaw_number : Flaw → ℕ
-flaw_number WrongWord = 12
-flaw_number WrongLength = 13
+use Rattle.jobtext.specs.Faults.{flaw_number}
+use Rattle.jobtext.specs.Sections.{name}
 
 -- the last line of a report on a job with a fault
 abbrev pub refusal_line : ℕ → Blame → List ℕ

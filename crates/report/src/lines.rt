@@ -1,30 +1,16 @@
 // The lines of a report.
 ghost use Rattle.std.specs.Prelude.{◌≡◌, ◌++◌, string_bytes, OnOk};
 ghost use Rattle.std.specs.List.{flat_map};
-ghost use Rattle.report.specs.Reports.{name, refusal_line, fault_line, placement_line, pair_line};
+ghost use Rattle.report.specs.Reports.{refusal_line, fault_line, placement_line, pair_line};
 
-use jobtext::{Blame, Fault, Section};
+use jobtext::{Blame, Fault};
 use std::alloc::AllocError;
-
-// The name of a section in a report.
-fn section_name(section: Section) -> &'static str
-    ensures { result.now ≡ name section }
-{
-    match section {
-        Section::Kind => "kind",
-        Section::Facets => "facets",
-        Section::Ties => "ties",
-        Section::Facets2 => "facets2",
-        Section::Ties2 => "ties2",
-        Section::Placements => "placements",
-    }
-}
 
 // The last line of a report on a job with a fault.
 pub(crate) fn push_refusal(text: &mut String, number: u8, blame: Blame) -> Result<(), AllocError>
     ensures { OnOk result (string_bytes text.new ≡ string_bytes text.old ++ refusal_line number blame) }
 {
-    let section = section_name(blame.section);
+    let section = blame.section;
     let word = blame.word;
     writeln!(text, "refused {number} in {section}, word {word}")
 }
@@ -34,7 +20,7 @@ pub(crate) fn push_fault(text: &mut String, fault: Option<Fault>) -> Result<(), 
     ensures { OnOk result (string_bytes text.new ≡ string_bytes text.old ++ fault_line fault) }
 {
     match fault {
-        Some(fault) => push_refusal(text, fault.flaw as u8, fault.blame),
+        Some(fault) => push_refusal(text, fault.flaw.number(), fault.blame),
         None => Ok(()),
     }
 }
