@@ -1,5 +1,5 @@
 -- Worked examples: a turn of about 53 degrees, and its axis 15.
-use Rattle.std.proofs.Common.{◌≡◌, ℤ, pos, negsuc, refl}
+use Rattle.std.proofs.Common.{◌≡◌, pos, negsuc, refl}
 use Rattle.hull.specs.Directions.{direction}
 use Rattle.placement.specs.declared.parts.Placement.{Placement}
 use Rattle.placement.specs.Parts.{triple}
