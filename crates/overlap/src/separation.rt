@@ -1,4 +1,4 @@
-// Two hulls along the axes of a placement.
+// Two hulls along the axes of a placement. They come as two references and in no record, since a register's table holds them apart.
 ghost use Rattle.std.specs.Prelude.{◌≡◌, ◌^◌, ◌≤◌, T, ◌+ℤ◌, ◌-ℤ◌, neg_ℤ, MatchOption, unsigned_abs};
 ghost use Rattle.pairs.specs.Gaps.{first_gap_lem, second_gap_lem, Parts, GapsAt, Parted};
 ghost use Rattle.pairs.specs.Claims.{TouchingUnparted, UnpartedNear, PartedUnrounded, UnpartedUnroundedNear};
