@@ -54,7 +54,10 @@ impl History {
             self.calls.as_slice(),
             answers.as_mut_slice(),
         );
-        let pairs = answers.iter().zip(self.dues.iter());
-        Ok(pairs.filter(|(answer, due)| **due == Some(**answer)).count())
+        let agreeing = answers
+            .iter()
+            .zip(self.dues.iter())
+            .filter(|(answer, due)| **due == Some(**answer));
+        Ok(agreeing.count())
     }
 }
