@@ -32,16 +32,6 @@ pub enum Line {
     Expect(Request, Due),
 }
 
-// The kind that a word names.
-fn kind_of(word: &str) -> Option<Kind> {
-    match word {
-        "box" => Some(Kind::Box),
-        "many" => Some(Kind::Many),
-        "ball" => Some(Kind::Ball),
-        _ => None,
-    }
-}
-
 // The opening that a text is.
 fn read_opening(text: &str) -> Option<Opening> {
     let mut words = text.split(' ');
@@ -49,7 +39,7 @@ fn read_opening(text: &str) -> Option<Opening> {
         return None;
     }
     let opening = Opening {
-        kind: kind_of(words.next()?)?,
+        kind: Kind::from_word(words.next()?.as_bytes())?,
         mark: number(&mut words)?,
         places: number(&mut words)?,
         stretch: number(&mut words)?,

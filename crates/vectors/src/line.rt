@@ -1,10 +1,11 @@
 // One test vector.
 use super::fault::Fault;
 use super::pieces::{Pair, direction, hull_of, pair_of};
-use super::sort::{Kind, Sort};
+use super::sort::Sort;
 use ball::BallHull;
 use faced::{BoxHull, ManyHull};
 use hull::Hull;
+use jobtext::Kind;
 use overlap::{gaps, parted};
 use std::alloc::Global;
 
@@ -67,7 +68,7 @@ pub(crate) fn judge(heap: Global, line: &str) -> Result<Sort, Fault> {
     let (sort, rest) = line.split_once(' ').ok_or(Fault::Malformed)?;
     let (kind, text) = rest.split_once(' ').ok_or(Fault::Malformed)?;
     let sort = sort.parse()?;
-    let kind = kind.parse()?;
+    let kind = Kind::from_word(kind.as_bytes()).ok_or(Fault::Malformed)?;
     let numbers = read_numbers(heap, text)?;
     let n = numbers.as_slice();
     let found = match kind {

@@ -1,8 +1,5 @@
-// What a test vector is about, and the kind of its hulls.
+// What a test vector is about.
 use super::fault::Fault;
-use ball::BallHull;
-use faced::{BoxHull, ManyHull};
-use hull::Named;
 use std::str::FromStr;
 
 #[derive(Clone, Copy)]
@@ -20,26 +17,6 @@ impl FromStr for Sort {
             "reach" => Ok(Sort::Reach),
             "gap" => Ok(Sort::Gap),
             "parted" => Ok(Sort::Parting),
-            _ => Err(Fault::Malformed),
-        }
-    }
-}
-
-#[derive(Clone, Copy)]
-pub enum Kind {
-    Box,
-    Many,
-    Ball,
-}
-
-impl FromStr for Kind {
-    type Err = Fault;
-
-    fn from_str(word: &str) -> Result<Kind, Fault> {
-        match word {
-            BoxHull::WORD => Ok(Kind::Box),
-            ManyHull::WORD => Ok(Kind::Many),
-            BallHull::WORD => Ok(Kind::Ball),
             _ => Err(Fault::Malformed),
         }
     }
