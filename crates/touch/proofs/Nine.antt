@@ -1,49 +1,52 @@
 -- The nine numbers of a facet, one by one.
-use Rattle.std.proofs.Common.{◌≡◌, ℕ, zero, suc, ◌+◌, ◌≤◌, List, [], ◌∷◌, length, get_or, drop, ℤ, pos, nat_abs, sym, refl, ap, ◌∙◌, subst, ap₂, arith, lit<, w64, to_z, of_z}
+use Rattle.std.proofs.Common.{◌≡◌, ℕ, zero, suc, ◌+◌, ◌≤◌, true, false, List, [], ◌∷◌, length, get_or, drop, ℤ, pos, nat_abs, Option, Some, None, MatchOption, sym, refl, ap, ◌∙◌, subst, ap₂, arith}
 use Rattle.std.proofs.lemmas.List.{drop_all, drop_more}
-use Rattle.std.proofs.lemmas.Int.{to_z-of_z}
-use Rattle.integers.proofs.Fits.{fits}
-use Rattle.hull.specs.Units.{Within, corner_limit}
-use Rattle.touch.specs.declared.facet.Facet.{Facet}
+use Rattle.std.proofs.lemmas.Bool.{and_from, and_parts, le-leb, cond-true}
+use Rattle.hull.specs.Units.{corner_limit}
+use Rattle.book.specs.declared.item.Facet.{Facet}
+use Rattle.book.specs.Facets.{corner, corner_from, entry, facet_of, fits, fits_at, nth, within}
 use Rattle.touch.specs.Facets.{InRange, entries}
 
 -- the m elements from place i on
 abbrev spelled : ℕ → ℕ → List ℤ → List ℤ
 spelled zero i n = []
-spelled (suc m) i n = get_or n i (pos 0) ∷ spelled m (i + 1) n
+spelled (suc m) i n = nth n i ∷ spelled m (i + 1) n
 
 spelled_is : (m i : ℕ) (n : List ℤ) → length n ≡ i + m → spelled m i n ≡ drop i n
 spelled_is zero i n e = sym (drop_all i n (omega arith))
 spelled_is (suc m) i n e =
-    ap (λ (t : List ℤ). get_or n i (pos 0) ∷ t) (spelled_is m (i + 1) n (omega arith)) ∙ sym (drop_more n i (pos 0) (omega arith))
+    ap (λ (t : List ℤ). nth n i ∷ t) (spelled_is m (i + 1) n (omega arith)) ∙ sym (drop_more n i (pos 0) (omega arith))
 
 nine : (n : List ℤ) → length n ≡ 9 → spelled 9 0 n ≡ n
 nine n e = spelled_is 9 0 n e
 
--- three numbers from place i on are in a corner's range, as a call is given them
-abbrev RangeAt : ℕ → List ℤ → Type 0
-RangeAt i n = Within corner_limit (to_z w64 (of_z w64 (get_or n i (pos 0)))) (to_z w64 (of_z w64 (get_or n (i + 1) (pos 0)))) (to_z w64 (of_z w64 (get_or n (i + 2) (pos 0))))
-
-range_at : (i : ℕ) (n : List ℤ) → nat_abs (get_or n i (pos 0)) ≤ corner_limit → nat_abs (get_or n (i + 1) (pos 0)) ≤ corner_limit → nat_abs (get_or n (i + 2) (pos 0)) ≤ corner_limit → RangeAt i n
-range_at i n hx hy hz =
-    let fx = fits w64 (get_or n i (pos 0)) corner_limit hx (lit< tt) in
-    let fy = fits w64 (get_or n (i + 1) (pos 0)) corner_limit hy (lit< tt) in
-    let fz = fits w64 (get_or n (i + 2) (pos 0)) corner_limit hz (lit< tt) in
-    simp to_z-of_z (record { in_x = hx; in_y = hy; in_z = hz })
-
-pub ranges : (n : List ℤ) → length n ≡ 9 → InRange n → RangeAt 0 n × RangeAt 3 n × RangeAt 6 n
-unfolding InRange
-ranges n e h =
+-- numbers in range are within the range of a facet's
+in_range : (n : List ℤ) → length n ≡ 9 → InRange n → within n ≡ true
+unfolding InRange within fits_at
+in_range n e h =
     let a = subst InRange (sym (nine n e)) h in
     let b = a.1.1.1 in
-    let c = b.1.1.1 in (range_at 0 n a.0 a.1.0 a.1.1.0, range_at 3 n b.0 b.1.0 b.1.1.0, range_at 6 n c.0 c.1.0 c.1.1.0)
+    let c = b.1.1.1 in
+    let fit : (k : ℕ) → nat_abs (nth n k) ≤ corner_limit → fits (nth n k) ≡ true = λ k l. le-leb (nat_abs (nth n k)) corner_limit l in
+    and_from _ _ (and_from _ _ (fit 0 a.0) (and_from _ _ (fit 1 a.1.0) (fit 2 a.1.1.0)))
+        (and_from _ _ (and_from _ _ (fit 3 b.0) (and_from _ _ (fit 4 b.1.0) (fit 5 b.1.1.0)))
+        (and_from _ _ (fit 6 c.0) (and_from _ _ (fit 7 c.1.0) (fit 8 c.1.1.0))))
 
--- three entries are those from place i on
-abbrev SameAt : ℤ → ℤ → ℤ → ℕ → List ℤ → Type 0
-SameAt x y z i n = (x ≡ get_or n i (pos 0)) × (y ≡ get_or n (i + 1) (pos 0)) × (z ≡ get_or n (i + 2) (pos 0))
+-- three numbers of a list that fit are the entries of the corner from there on
+row : (n : List ℤ) (k : ℕ) {xs ys : List ℤ} → fits_at n k ≡ true → xs ≡ ys → entry (nth n k) ∷ entry (nth n (k + 1)) ∷ entry (nth n (k + 2)) ∷ xs ≡ nth n k ∷ nth n (k + 1) ∷ nth n (k + 2) ∷ ys
+unfolding entry fits_at
+row n k h t =
+    let p = and_parts (fits (nth n k)) _ h in
+    let q = and_parts (fits (nth n (k + 1))) (fits (nth n (k + 2))) p.1 in
+    ap₂ ◌∷◌ (cond-true _ _ _ p.0) (ap₂ ◌∷◌ (cond-true _ _ _ q.0) (ap₂ ◌∷◌ (cond-true _ _ _ q.1) t))
 
-pub entries_are : (f : Facet) (n : List ℤ) → length n ≡ 9 → SameAt f.a.x f.a.y f.a.z 0 n → SameAt f.b.x f.b.y f.b.z 3 n → SameAt f.c.x f.c.y f.c.z 6 n → entries f ≡ n
-entries_are f n e a b c = row a (row b (row c refl)) ∙ nine n e
-  where
-    row : {x y z x' y' z' : ℤ} {xs ys : List ℤ} → (x ≡ x') × (y ≡ y') × (z ≡ z') → xs ≡ ys → x ∷ y ∷ z ∷ xs ≡ x' ∷ y' ∷ z' ∷ ys
-    row h k = ap₂ ◌∷◌ h.0 (ap₂ ◌∷◌ h.1 (ap₂ ◌∷◌ h.2 k))
+entries_are : (n : List ℤ) → length n ≡ 9 → within n ≡ true → entries (facet_of n) ≡ n
+unfolding within facet_of corner_from corner
+entries_are n e h =
+    let p = and_parts (fits_at n 0) _ h in
+    let q = and_parts (fits_at n 3) (fits_at n 6) p.1 in
+    row n 0 p.0 (row n 3 q.0 (row n 6 q.1 refl)) ∙ nine n e
+
+pub made : (n : List ℤ) (o : Option Facet) → length n ≡ 9 → MatchOption o (within n ≡ false) (λ f. (within n ≡ true) × (f ≡ facet_of n)) → MatchOption o (InRange n → ⊥) (λ f. entries f ≡ n)
+made n None e h = λ r. let t = in_range n e r in cc
+made n (Some f) e h = ap entries h.1 ∙ entries_are n e h.0

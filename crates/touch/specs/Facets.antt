@@ -3,10 +3,12 @@ use Rattle.std.specs.Prelude.{◌≤◌, List, [], ◌∷◌, ℤ, unsigned_abs}
 use Rattle.std.specs.List.{AllByRecursion}
 use Rattle.hull.specs.declared.corner.Corner.{Corner}
 use Rattle.hull.specs.Units.{corner_limit}
-use Rattle.touch.specs.declared.facet.Facet.{Facet}
+use Rattle.book.specs.declared.item.Facet.{Facet}
+use Rattle.book.specs.Facets.{corners_of}
 
+-- its three corners, in their order
 abbrev pub corners : Facet → List Corner
-corners f = f.a ∷ f.b ∷ f.c ∷ []
+corners = corners_of
 
 -- the numbers of a facet, in their order
 abbrev pub entries : Facet → List ℤ

@@ -1,17 +1,17 @@
 -- The line that reports a fault.
 use Rattle.std.specs.Prelude.{◌≡◌, ℕ, List, ◌++◌, codes, decimal}
+use Rattle.book.specs.Refusals.{number}
 use Rattle.jobtext.specs.declared.fault.Fault.{Fault as TextFault}
 use Rattle.jobtext.specs.declared.section.Section.{Section}
 use Rattle.jobtext.specs.Faults.{flaw_number}
 use Rattle.jobtext.specs.Sections.{name}
 use Rattle.touch.specs.declared.refusal.Fault.{Fault}
-use Rattle.touch.specs.declared.refusal.Fault.TheVariants.{CornerOutOfRange, PlacementOutOfRange, Text}
+use Rattle.touch.specs.declared.refusal.Fault.TheVariants.{Call, Text}
 use Rattle.touch.specs.declared.refusal.Refusal.{Refusal}
 
 -- the number of a fault in a report
 abbrev pub fault_number : Fault → ℕ
-fault_number CornerOutOfRange = 4
-fault_number PlacementOutOfRange = 10
+fault_number (Call refusal) = number refusal
 fault_number (Text flaw) = flaw_number flaw
 
 -- the line that reports a refusal

@@ -1,19 +1,20 @@
 // Reads a job and compares its objects.
 ghost use Rattle.std.specs.Prelude.{◌≡◌, ◌<◌, length, IfOk, Err, string_bytes, MatchResult};
+ghost use Rattle.book.specs.declared.item.Facet.{Facet as FacetOf};
+ghost use Rattle.book.specs.declared.refusal.Refusal.TheVariants.{OutOfRange};
 ghost use Rattle.jobtext.specs.Due.{AllNumbered};
 ghost use Rattle.jobtext.specs.Words.{job_limit};
-ghost use Rattle.touch.specs.declared.facet.Facet.{Facet as FacetOf};
-ghost use Rattle.touch.specs.declared.refusal.Fault.TheVariants.{CornerOutOfRange};
+ghost use Rattle.touch.specs.declared.refusal.Fault.TheVariants.{Call};
 ghost use Rattle.touch.specs.Due.{NotRead};
 ghost use Rattle.touch.specs.Facets.{InRange, corners, entries};
 ghost use Rattle.touch.specs.Reports.{placement_lines_lem, stop_line, too_long};
 
-use super::facet::Facet;
 use super::refusal::{Fault, Refusal};
 use super::rows::read_row;
 use super::stop::Stop;
 use axes::Axes;
 use ball::BallHull;
+use book::Facet;
 use faced::{BoxHull, ManyHull};
 use hull::Hull;
 use jobtext::{Kind, Section};
@@ -22,12 +23,19 @@ use placement::Placement;
 use std::alloc::{AllocError, Global};
 use words::Words;
 
+// The hull of a facet's three corners.
+fn facet_hull<H: Hull>(facet: &Facet) -> H
+    ensures { H.fits result (corners facet.now) }
+{
+    H::first(facet.a).more(facet.b).more(facet.c)
+}
+
 // The hull of the facet that is due.
 fn read_facet<H: Hull>(input: &mut Words) -> Result<H, Refusal>
-    ensures { MatchResult result (λ h. (f : FacetOf) × AllNumbered input.old.left (entries f) input.new.left × H.fits h (corners f)) (λ e. NotRead 9 InRange CornerOutOfRange input.old.left input.old.section input.old.taken e) }
+    ensures { MatchResult result (λ h. (f : FacetOf) × AllNumbered input.old.left (entries f) input.new.left × H.fits h (corners f)) (λ e. NotRead 9 InRange (Call OutOfRange) input.old.left input.old.section input.old.taken e) }
 {
-    let facet = read_row::<Facet, 9>(input, Fault::CornerOutOfRange)?;
-    Ok(facet.hull())
+    let facet = read_row::<Facet, 9>(input, Fault::Call(book::Refusal::OutOfRange))?;
+    Ok(facet_hull(&facet))
 }
 
 // The hull of the object that is due.
@@ -61,7 +69,8 @@ fn compare<H: Hull>(heap: Global, input: &mut Words, report: &mut String) -> Res
     let standing: H = read_object(input, Section::Facets2, Section::Ties2)?;
     let count = input.count(Section::Placements)?;
     for index in 0..count {
-        let axes = Axes::new(read_row::<Placement, 12>(input, Fault::PlacementOutOfRange)?);
+        let fault = Fault::Call(book::Refusal::PlacementOutOfRange);
+        let axes = Axes::new(read_row::<Placement, 12>(input, fault)?);
         let lines = placement_lines(heap, index, parted(&axes, &moved, &standing))?;
         report.push_str(lines.as_str())?;
     }

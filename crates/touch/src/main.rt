@@ -1,7 +1,6 @@
 // Reads a job and reports the facet pairs that may touch.
 #![tactic(auto)]
 
-mod facet;
 mod job;
 mod refusal;
 mod rows;

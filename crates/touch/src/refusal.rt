@@ -5,11 +5,10 @@ ghost use Rattle.touch.specs.Faults.{fault_number, of_text, refusal_line};
 use jobtext::{Blame, Flaw};
 use std::fmt;
 
-// What is wrong with a job: its numbers, or its text.
+// What is wrong with a job: a call that its numbers make, or its text.
 #[derive(Clone, Copy)]
 pub enum Fault {
-    CornerOutOfRange,
-    PlacementOutOfRange,
+    Call(book::Refusal),
     Text(Flaw),
 }
 
@@ -19,8 +18,7 @@ impl Fault {
         ensures { result ≡ fault_number self }
     {
         match self {
-            Fault::CornerOutOfRange => 4,
-            Fault::PlacementOutOfRange => 10,
+            Fault::Call(refusal) => refusal.number(),
             Fault::Text(flaw) => flaw.number(),
         }
     }

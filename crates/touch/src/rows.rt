@@ -6,8 +6,8 @@ ghost use Rattle.placement.specs.Twelve.{InRange as PlacementInRange, entries as
 ghost use Rattle.touch.specs.Due.{NotRead};
 ghost use Rattle.touch.specs.Facets.{InRange as FacetInRange, entries as facet_entries};
 
-use super::facet::Facet;
 use super::refusal::{Fault, Refusal};
+use book::Facet;
 use placement::Placement;
 use words::Words;
 
