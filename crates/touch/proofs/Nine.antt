@@ -1,5 +1,5 @@
 -- The nine numbers of a facet, one by one.
-use Rattle.std.proofs.Common.{◌≡◌, ℕ, zero, suc, ◌+◌, ◌≤◌, true, false, List, [], ◌∷◌, length, get_or, drop, ℤ, pos, nat_abs, Option, Some, None, MatchOption, sym, refl, ap, ◌∙◌, subst, ap₂, arith}
+use Rattle.std.proofs.Common.{◌≡◌, ℕ, zero, suc, ◌+◌, ◌≤◌, true, false, List, [], ◌∷◌, length, drop, ℤ, pos, nat_abs, Option, Some, None, MatchOption, sym, refl, ap, ◌∙◌, subst, ap₂, arith}
 use Rattle.std.proofs.lemmas.List.{drop_all, drop_more}
 use Rattle.std.proofs.lemmas.Bool.{and_from, and_parts, le-leb, cond-true}
 use Rattle.hull.specs.Units.{corner_limit}
@@ -20,19 +20,19 @@ spelled_is (suc m) i n e =
 nine : (n : List ℤ) → length n ≡ 9 → spelled 9 0 n ≡ n
 nine n e = spelled_is 9 0 n e
 
--- numbers in range are within the range of a facet's
+-- three numbers of a list that are in range may be the entries of a corner
+fit : (n : List ℤ) (k : ℕ) → nat_abs (nth n k) ≤ corner_limit → nat_abs (nth n (k + 1)) ≤ corner_limit → nat_abs (nth n (k + 2)) ≤ corner_limit → fits_at n k ≡ true
+unfolding fits_at
+fit n k x y z = and_from _ _ (le-leb _ _ x) (and_from _ _ (le-leb _ _ y) (le-leb _ _ z))
+
 in_range : (n : List ℤ) → length n ≡ 9 → InRange n → within n ≡ true
-unfolding InRange within fits_at
+unfolding InRange within
 in_range n e h =
     let a = subst InRange (sym (nine n e)) h in
     let b = a.1.1.1 in
-    let c = b.1.1.1 in
-    let fit : (k : ℕ) → nat_abs (nth n k) ≤ corner_limit → fits (nth n k) ≡ true = λ k l. le-leb (nat_abs (nth n k)) corner_limit l in
-    and_from _ _ (and_from _ _ (fit 0 a.0) (and_from _ _ (fit 1 a.1.0) (fit 2 a.1.1.0)))
-        (and_from _ _ (and_from _ _ (fit 3 b.0) (and_from _ _ (fit 4 b.1.0) (fit 5 b.1.1.0)))
-        (and_from _ _ (fit 6 c.0) (and_from _ _ (fit 7 c.1.0) (fit 8 c.1.1.0))))
+    let c = b.1.1.1 in and_from _ _ (fit n 0 a.0 a.1.0 a.1.1.0) (and_from _ _ (fit n 3 b.0 b.1.0 b.1.1.0) (fit n 6 c.0 c.1.0 c.1.1.0))
 
--- three numbers of a list that fit are the entries of the corner from there on
+-- such numbers are the entries of the corner that is made of them
 row : (n : List ℤ) (k : ℕ) {xs ys : List ℤ} → fits_at n k ≡ true → xs ≡ ys → entry (nth n k) ∷ entry (nth n (k + 1)) ∷ entry (nth n (k + 2)) ∷ xs ≡ nth n k ∷ nth n (k + 1) ∷ nth n (k + 2) ∷ ys
 unfolding entry fits_at
 row n k h t =
@@ -47,6 +47,7 @@ entries_are n e h =
     let q = and_parts (fits_at n 3) (fits_at n 6) p.1 in
     row n 0 p.0 (row n 3 q.0 (row n 6 q.1 refl)) ∙ nine n e
 
+-- what book tells of a facet that nine numbers make, told of their list
 pub made : (n : List ℤ) (o : Option Facet) → length n ≡ 9 → MatchOption o (within n ≡ false) (λ f. (within n ≡ true) × (f ≡ facet_of n)) → MatchOption o (InRange n → ⊥) (λ f. entries f ≡ n)
 made n None e h = λ r. let t = in_range n e r in cc
 made n (Some f) e h = ap entries h.1 ∙ entries_are n e h.0

@@ -6,7 +6,7 @@ use Rattle.hull.specs.Units.{corner_limit}
 use Rattle.book.specs.declared.item.Facet.{Facet}
 use Rattle.book.specs.Facets.{corners_of}
 
--- its three corners, in their order
+-- the corners of a facet, in their order
 abbrev pub corners : Facet → List Corner
 corners = corners_of
 
