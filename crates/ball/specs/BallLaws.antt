@@ -16,7 +16,7 @@ use Rattle.hull.specs.declared.direction.Direction.{Direction}
 use Rattle.hull.specs.Units.{reach_unit, slack, squared}
 use Rattle.hull.specs.Measures.{along, size, Near, Spread, Covers, Tight}
 use Rattle.ball.specs.declared.kind.BallHull.{BallHull}
-use Rattle.ball.specs.Balls.{apart, distance_up, ball_begun, ball_grown, ball_reach_lem, farthest, BallFits}
+use Rattle.ball.specs.Balls.{apart, distance_up, ball_begun, ball_grown, reach_of_ball, farthest, BallFits}
 
 -- ---- the largest distance of a list
 farthest_more : (z : Corner) (c : List Corner) (p : Corner) → farthest z (c ++ p ∷ []) ≡ max (farthest z c) (distance_up p z)
@@ -124,18 +124,18 @@ under t a b d r q s n h e k f g =
 abbrev reach_sum : BallHull → Direction → ℤ
 reach_sum h u = along u h.centre +ℤ pos (h.radius * length_up u)
 
-pub covers : (h : BallHull) (c : List Corner) (u : Direction) → BallFits h c → Covers (ball_reach_lem h u) u c
-covers h c u f = All-weaker (λ v. distance_up v h.centre ≤ h.radius) (λ v. along u v ≤ℤ (pos reach_unit *ℤ ball_reach_lem h u)) each c (inside h c f)
+pub covers : (h : BallHull) (c : List Corner) (u : Direction) → BallFits h c → Covers (reach_of_ball h u) u c
+covers h c u f = All-weaker (λ v. distance_up v h.centre ≤ h.radius) (λ v. along u v ≤ℤ (pos reach_unit *ℤ reach_of_ball h u)) each c (inside h c f)
   where
-    each : (v : Corner) → distance_up v h.centre ≤ h.radius → along u v ≤ℤ (pos reach_unit *ℤ ball_reach_lem h u)
+    each : (v : Corner) → distance_up v h.centre ≤ h.radius → along u v ≤ℤ (pos reach_unit *ℤ reach_of_ball h u)
     each v l =
-        over (pos reach_unit *ℤ ball_reach_lem h u) (along u h.centre) (along u v) (step u h.centre v) (h.radius * length_up u)
+        over (pos reach_unit *ℤ reach_of_ball h u) (along u h.centre) (along u v) (step u h.centre v) (h.radius * length_up u)
         (div_up_bounds (reach_sum h u) reach_unit (lit< tt)).0 (along_step u h.centre v) (step_over u h.centre v h.radius l)
 
-pub tight : (h : BallHull) (c : List Corner) (u : Direction) (s : ℕ) → BallFits h c → Spread s c → Tight (ball_reach_lem h u) u s c
-tight h c u s f n = All-weaker (λ v. Near s v h.centre) (λ v. (pos reach_unit *ℤ ball_reach_lem h u) ≤ℤ (along u v +ℤ pos (3 * (size u * (s + 8)) + slack))) each c (near_centre h c s f n)
+pub tight : (h : BallHull) (c : List Corner) (u : Direction) (s : ℕ) → BallFits h c → Spread s c → Tight (reach_of_ball h u) u s c
+tight h c u s f n = All-weaker (λ v. Near s v h.centre) (λ v. (pos reach_unit *ℤ reach_of_ball h u) ≤ℤ (along u v +ℤ pos (3 * (size u * (s + 8)) + slack))) each c (near_centre h c s f n)
   where
-    each : (v : Corner) → Near s v h.centre → (pos reach_unit *ℤ ball_reach_lem h u) ≤ℤ (along u v +ℤ pos (3 * (size u * (s + 8)) + slack))
+    each : (v : Corner) → Near s v h.centre → (pos reach_unit *ℤ reach_of_ball h u) ≤ℤ (along u v +ℤ pos (3 * (size u * (s + 8)) + slack))
     each v t =
-        under (pos reach_unit *ℤ ball_reach_lem h u) (along u h.centre) (along u v) (step u h.centre v) h.radius (length_up u) s (size u)
+        under (pos reach_unit *ℤ reach_of_ball h u) (along u h.centre) (along u v) (step u h.centre v) h.radius (length_up u) s (size u)
         (div_up_bounds (reach_sum h u) reach_unit (lit< tt)).1 (along_step u h.centre v) (step_small u h.centre v s t) (radius_under h c s f n) (length_under u)

@@ -25,8 +25,8 @@ abbrev pub ball_grown : BallHull → Corner → BallHull
 ball_grown h p = record { centre = h.centre; radius = max h.radius (distance_up p h.centre) }
 
 -- how far a ball reaches along a direction: (u·z + r × q) / 256 rounded up, where q is the root of u·u rounded up
-abbrev pub ball_reach_lem : BallHull → Direction → ℤ
-ball_reach_lem h u = div_up (along u h.centre +ℤ pos (h.radius * root_up (squared u.x u.y u.z))) reach_unit
+abbrev pub reach_of_ball : BallHull → Direction → ℤ
+reach_of_ball h u = div_up (along u h.centre +ℤ pos (h.radius * root_up (squared u.x u.y u.z))) reach_unit
 
 -- the largest distance of the corners of a list to z, each rounded up
 abbrev pub farthest : Corner → List Corner → ℕ

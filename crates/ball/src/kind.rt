@@ -1,12 +1,12 @@
 // A ball about the first corner.
 ghost use Rattle.std.specs.Prelude.{pos};
-ghost use Rattle.ball.specs.Balls.{ball_begun, ball_grown, ball_reach_lem, BallFits};
+ghost use Rattle.ball.specs.Balls.{ball_begun, ball_grown, reach_of_ball, BallFits};
 ghost use Rattle.ball.specs.BallLaws as laws;
 ghost use Rattle.std.proofs.Common.{rules};
 
 use super::distance::distance;
 use super::measure::{dot, extent, in_units};
-use hull::{Corner, Direction, Hull, Named};
+use hull::{Corner, Direction, Hull};
 
 #[derive(Clone, Copy)]
 pub struct BallHull {
@@ -15,18 +15,16 @@ pub struct BallHull {
     radius: u32,
 }
 
-impl Named for BallHull {
+impl Hull for BallHull {
     const WORD: &'static str = "ball";
 
     const FACES: usize = 0;
-}
 
-impl Hull for BallHull {
     ghost begun = { ball_begun };
 
     ghost grown = { ball_grown };
 
-    ghost reaches = { ball_reach_lem };
+    ghost reaches = { reach_of_ball };
 
     ghost fits = { BallFits };
 

@@ -16,7 +16,7 @@ use ball::BallHull;
 use book::{Comparison, Item};
 use entry::enter_both;
 use faced::{BoxHull, ManyHull};
-use hull::{Corner, Hull, Named};
+use hull::{Corner, Hull};
 use job::Job;
 use query::{find, measure};
 use register::{Place, Register};

@@ -6,7 +6,7 @@ use Rattle.integers.proofs.Roots.{root_is}
 use Rattle.hull.specs.Directions.{direction}
 use Rattle.hull.specs.Faces.{place}
 use Rattle.cases.specs.Worked.{Lifts, corner, ball_with, lifted, Lifted, Worked}
-use Rattle.pairs.specs.Axes.{axes_of_lem, as_axis, turned}
+use Rattle.pairs.specs.Axes.{axes_under, as_axis, turned}
 use Rattle.pairs.specs.Directions.{separating, moved_direction, standing_direction, opposite}
 use Rattle.walks.specs.Walks.{apart, facets}
 use Rattle.walks.proofs.Deciding.{parted?, parted_is, parted_not}
@@ -30,19 +30,19 @@ radius_5 = ap₂ (λ (m n : ℕ). max (max 0 m) n) root_25 root_0
 
 -- the whole case
 lift_28672 : Lifted 28672 tt []
-unfolding parted? axes_of_lem as_axis turned separating moved_direction standing_direction opposite direction place reach_on supports raised
+unfolding parted? axes_under as_axis turned separating moved_direction standing_direction opposite direction place reach_on supports raised
 lift_28672 = apart (parted_is _ _ (lifted 28672 tt) refl)
 
 lift_32768 : Lifted 32768 tt ((0, 0) ∷ [])
-unfolding parted? axes_of_lem as_axis turned separating moved_direction standing_direction opposite direction place reach_on supports raised
+unfolding parted? axes_under as_axis turned separating moved_direction standing_direction opposite direction place reach_on supports raised
 lift_32768 = facets (parted_not _ _ (lifted 32768 tt) refl)
 
 lift_53248 : Lifted 53248 tt []
-unfolding parted? axes_of_lem as_axis turned separating moved_direction standing_direction opposite direction place reach_on supports raised
+unfolding parted? axes_under as_axis turned separating moved_direction standing_direction opposite direction place reach_on supports raised
 lift_53248 = apart (parted_is _ _ (lifted 53248 tt) refl)
 
 lift_49152 : Lifted 49152 tt ((0, 0) ∷ [])
-unfolding parted? axes_of_lem as_axis turned separating moved_direction standing_direction opposite direction place reach_on supports raised
+unfolding parted? axes_under as_axis turned separating moved_direction standing_direction opposite direction place reach_on supports raised
 lift_49152 = facets (parted_not _ _ (lifted 49152 tt) refl)
 
 pub worked : Worked

@@ -7,7 +7,7 @@ use Rattle.hull.specs.declared.corner.Corner.{Corner}
 use Rattle.hull.specs.declared.direction.Direction.{Direction}
 use Rattle.hull.specs.Units.{corner_limit, direction_limit}
 use Rattle.hull.specs.Faces.{face}
-use Rattle.hull.specs.Weights.{weight, many_weights_lem}
+use Rattle.hull.specs.Weights.{weight, many_weighting}
 use Rattle.hull.specs.Directions.{direction}
 use Rattle.support.specs.Supports.{kept, rounded}
 use Rattle.faced.specs.Hulls.{box_begun, box_grown, box_reach}
@@ -19,7 +19,7 @@ use Rattle.book.specs.Trees.{leaf}
 use Rattle.walks.specs.Walks.{Walk}
 use Rattle.walks.specs.Comparisons.{PartedItems}
 use Rattle.ball.specs.declared.kind.BallHull.{BallHull}
-use Rattle.ball.specs.Balls.{ball_begun, ball_grown, ball_reach_lem}
+use Rattle.ball.specs.Balls.{ball_begun, ball_grown, reach_of_ball}
 
 -- a corner of numbers that are seen to be in range
 abbrev pub corner : (x y z : ℤ) → T (nat_le (unsigned_abs x) corner_limit) → T (nat_le (unsigned_abs y) corner_limit) → T (nat_le (unsigned_abs z) corner_limit) → Corner
@@ -62,10 +62,10 @@ pub record Worked : Type 0 where
   -- d = 9 gives g = 3, and d = -9 gives -2
   pub products : (kept (pos 9) ≡ pos 3) × (kept (negsuc 8) ≡ negsuc 1)
   -- (5, -3, 1) has the weights 2, 2 and 1 on (1, 0, 0), (1, -1, 0) and (1, -1, 1)
-  pub weights : many_weights_lem (pos 5) (negsuc 2) (pos 1) ≡ weight 2 (face (pos 1) (pos 0) (pos 0)) ∷ weight 2 (face (pos 1) (negsuc 0) (pos 0)) ∷ weight 1 (face (pos 1) (negsuc 0) (pos 1)) ∷ []
+  pub weights : many_weighting (pos 5) (negsuc 2) (pos 1) ≡ weight 2 (face (pos 1) (pos 0) (pos 0)) ∷ weight 2 (face (pos 1) (negsuc 0) (pos 0)) ∷ weight 1 (face (pos 1) (negsuc 0) (pos 1)) ∷ []
   -- with (3, 4, 0) the ball's radius is 5, and its reach along (0, 0, W) 20,480
   pub radius_5 : (ball_with (corner (pos 3) (pos 4) (pos 0) tt tt tt)).radius ≡ 5
-  pub reach_20480 : ball_reach_lem (ball_with (corner (pos 3) (pos 4) (pos 0) tt tt tt)) upward ≡ pos 20480
+  pub reach_20480 : reach_of_ball (ball_with (corner (pos 3) (pos 4) (pos 0) tt tt tt)) upward ≡ pos 20480
   -- with (1, 1, 0) its radius is 2
   pub radius_2 : (ball_with (corner (pos 1) (pos 1) (pos 0) tt tt tt)).radius ≡ 2
   -- an axis entry from -1 is -1, and from 4,095 it is 0

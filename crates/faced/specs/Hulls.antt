@@ -3,7 +3,7 @@ use Rattle.std.specs.Prelude.{ℕ, List, take, ℤ}
 use Rattle.hull.specs.declared.corner.Corner.{Corner}
 use Rattle.hull.specs.declared.direction.Direction.{Direction}
 use Rattle.hull.specs.declared.face.Weight.{Weight}
-use Rattle.hull.specs.Weights.{box_weights_lem, many_weights_lem}
+use Rattle.hull.specs.Weights.{box_weighting, many_weighting}
 use Rattle.support.specs.Supports.{supports, raised, Supports, reach_on, unrounded_on}
 use Rattle.faced.specs.declared.hulls.FacedHull.{FacedHull}
 
@@ -29,11 +29,11 @@ FitsOn n h c = Supports n h.supports c
 
 -- the weights on the axes
 abbrev pub on_box : Direction → List Weight
-on_box u = box_weights_lem u.x u.y u.z
+on_box u = box_weighting u.x u.y u.z
 
 -- the weights on sums of axes
 abbrev pub on_many : Direction → List Weight
-on_many u = many_weights_lem u.x u.y u.z
+on_many u = many_weighting u.x u.y u.z
 
 -- the box: the first six faces, and the weights on the axes
 abbrev pub box_begun : Corner → FacedHull 6

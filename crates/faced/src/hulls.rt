@@ -20,6 +20,10 @@ impl<const N: usize> Hull for FacedHull<N>
 where
     Self: Weighted<N>,
 {
+    const WORD: &'static str = <Self as Weighted<N>>::NAME;
+
+    const FACES: usize = N;
+
     ghost begun = { begun_on N };
 
     ghost grown = { grown_on N };

@@ -7,18 +7,14 @@ ghost use Rattle.faced.specs.Hulls.{on_box, on_many};
 
 use super::hulls::FacedHull;
 use super::weighted::Weighted;
-use hull::{Direction, FaceWeight, Named};
+use hull::{Direction, FaceWeight};
 
 // A box, by the support values of its six faces along the axes.
 pub type BoxHull = FacedHull<6>;
 
-impl Named for BoxHull {
-    const WORD: &'static str = "box";
-
-    const FACES: usize = 6;
-}
-
 impl Weighted<6> for BoxHull {
+    const NAME: &'static str = "box";
+
     ghost few = { lit≤ tt };
 
     ghost weights = { on_box };
@@ -37,13 +33,9 @@ impl Weighted<6> for BoxHull {
 // A hull by the support values of 26 faces: every direction with the entries -1, 0 and 1 that is not 0.
 pub type ManyHull = FacedHull<26>;
 
-impl Named for ManyHull {
-    const WORD: &'static str = "many";
-
-    const FACES: usize = 26;
-}
-
 impl Weighted<26> for ManyHull {
+    const NAME: &'static str = "many";
+
     ghost few = { lit≤ tt };
 
     ghost weights = { on_many };

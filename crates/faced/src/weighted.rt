@@ -7,10 +7,13 @@ ghost use Rattle.support.specs.Supports.{reach_on};
 ghost use Rattle.support.specs.Exchange.{InAnyOrderAs};
 ghost use Rattle.support.proofs.FacedLaws.{Decomposes};
 
-use hull::{Direction, FaceWeight, Named};
+use hull::{Direction, FaceWeight};
 
 // A kind that writes a direction as weights on the first N faces of the list.
-pub trait Weighted<const N: usize>: Named {
+pub trait Weighted<const N: usize> {
+    // its word in a job
+    const NAME: &'static str;
+
     ghost few: { N ≤ 26 };
 
     // the weights of a direction, whose sum it is

@@ -6,7 +6,7 @@ use Rattle.integers.specs.Roots.{root_up}
 use Rattle.hull.specs.declared.direction.Direction.{Direction}
 use Rattle.hull.specs.declared.corner.Corner.{Corner}
 use Rattle.hull.specs.Units.{corner_limit, direction_limit, squared}
-use Rattle.hull.specs.Weights.{box_weights_lem, many_weights_lem, divided}
+use Rattle.hull.specs.Weights.{box_weighting, many_weighting, divided}
 use Rattle.hull.specs.Directions.{direction}
 
 -- of any maker of a record from three numbers in a range
@@ -18,7 +18,7 @@ same_made n made x y z x' y' z' f g h f' g' h' ex ey ez =
 
 -- what a direction carries besides its entries is fixed by them
 module _ (u : Direction) where
-  filled : Cosingl (map divided (box_weights_lem u.x u.y u.z)) → Cosingl (map divided (many_weights_lem u.x u.y u.z)) → Cosingl (root_up (squared u.x u.y u.z)) → Direction
+  filled : Cosingl (map divided (box_weighting u.x u.y u.z)) → Cosingl (map divided (many_weighting u.x u.y u.z)) → Cosingl (root_up (squared u.x u.y u.z)) → Direction
   filled b m r = record { x = u.x; y = u.y; z = u.z; box_weights = b.0; many_weights = m.0; length = r.0; x_in = u.x_in; y_in = u.y_in; z_in = u.z_in; on_box = b.1; on_many = m.1; as_long = r.1 }
 
   own : direction u.x u.y u.z u.x_in u.y_in u.z_in ≡ u

@@ -7,7 +7,7 @@ use Rattle.hull.specs.declared.face.Face.{Face}
 use Rattle.hull.specs.declared.face.Weight.{Weight}
 use Rattle.hull.specs.Units.{direction_limit}
 use Rattle.hull.specs.Faces.{face, behind, joined, Small}
-use Rattle.hull.specs.Weights.{entry, box_weights_lem, insert, sorted, total, Falls, Ranked}
+use Rattle.hull.specs.Weights.{entry, box_weighting, insert, sorted, total, Falls, Ranked}
 
 -- ---- sorting keeps every sum over the list
 pub total_insert : (m : Weight → ℕ) (w : Weight) (ws : List Weight) → total m (insert w ws) ≡ m w + total m ws
@@ -57,9 +57,9 @@ ey = face (pos 0) (pos 1) (pos 0)
 abbrev pub ez : Face
 ez = face (pos 0) (pos 0) (pos 1)
 
-pub ranked : (x y z : ℤ) → nat_abs x ≤ direction_limit → nat_abs y ≤ direction_limit → nat_abs z ≤ direction_limit → Ranked (sorted (box_weights_lem x y z))
+pub ranked : (x y z : ℤ) → nat_abs x ≤ direction_limit → nat_abs y ≤ direction_limit → nat_abs z ≤ direction_limit → Ranked (sorted (box_weighting x y z))
 ranked x y z hx hy hz = record {
-  falls = falls_sorted direction_limit (box_weights_lem x y z) (bound x ex hx, (bound y ey hy, (bound z ez hz, tt)));
+  falls = falls_sorted direction_limit (box_weighting x y z) (bound x ex hx, (bound y ey hy, (bound z ez hz, tt)));
   one_x = one (λ f. nat_abs f.x) refl refl refl refl;
   one_y = one (λ f. nat_abs f.y) refl refl refl refl;
   one_z = one (λ f. nat_abs f.z) refl refl refl refl;
@@ -68,12 +68,12 @@ ranked x y z hx hy hz = record {
     bound : (z : ℤ) (f : Face) → nat_abs z ≤ direction_limit → (entry z f).amount ≤ direction_limit
     bound z f h = subst (λ (n : ℕ). n ≤ direction_limit) (sym (size_of z f)) h
 
-    one : (m : Face → ℕ) → m (behind ex) ≡ m ex → m (behind ey) ≡ m ey → m (behind ez) ≡ m ez → m ex + (m ey + (m ez + 0)) ≡ 1 → total (λ (w : Weight). m w.on) (sorted (box_weights_lem x y z)) ≤ 1
+    one : (m : Face → ℕ) → m (behind ex) ≡ m ex → m (behind ey) ≡ m ey → m (behind ez) ≡ m ez → m ex + (m ey + (m ez + 0)) ≡ 1 → total (λ (w : Weight). m w.on) (sorted (box_weighting x y z)) ≤ 1
     one m fx fy fz e =
         let a = along_axis m x ex fx in
         let b = along_axis m y ey fy in
         let c = along_axis m z ez fz in
-        omega (arith, total_sorted (λ (w : Weight). m w.on) (box_weights_lem x y z))
+        omega (arith, total_sorted (λ (w : Weight). m w.on) (box_weighting x y z))
 
 -- ---- the sums of faces on axes of their own
 pub small_edge : (p q r : Weight) → Ranked (p ∷ q ∷ r ∷ []) → Small (joined p.on q.on)

@@ -3,15 +3,15 @@ use Rattle.std.specs.Prelude.{◌≤◌, map, ℤ, unsigned_abs, refl}
 use Rattle.integers.specs.Roots.{root_up}
 use Rattle.hull.specs.declared.direction.Direction.{Direction}
 use Rattle.hull.specs.Units.{direction_limit, squared}
-use Rattle.hull.specs.Weights.{box_weights_lem, many_weights_lem, divided}
+use Rattle.hull.specs.Weights.{box_weighting, many_weighting, divided}
 
 unfoldable pub direction : (x y z : ℤ) → unsigned_abs x ≤ direction_limit → unsigned_abs y ≤ direction_limit → unsigned_abs z ≤ direction_limit → Direction
 direction x y z in_x in_y in_z = record {
   x = x;
   y = y;
   z = z;
-  box_weights = map divided (box_weights_lem x y z);
-  many_weights = map divided (many_weights_lem x y z);
+  box_weights = map divided (box_weighting x y z);
+  many_weights = map divided (many_weighting x y z);
   length = root_up (squared x y z);
   x_in = in_x;
   y_in = in_y;

@@ -15,8 +15,8 @@ entry (pos n) f = weight n f
 entry (negsuc n) f = weight (suc n) (behind f)
 
 -- a direction on the faces of a box: the absolute values, on the axes of its signs
-abbrev pub box_weights_lem : ℤ → ℤ → ℤ → List Weight
-box_weights_lem x y z =
+abbrev pub box_weighting : ℤ → ℤ → ℤ → List Weight
+box_weighting x y z =
     entry x (face (pos 1) (pos 0) (pos 0)) ∷ entry y (face (pos 0) (pos 1) (pos 0)) ∷ entry z (face (pos 0) (pos 0) (pos 1)) ∷ []
 
 -- the largest amount first
@@ -38,8 +38,8 @@ stacked [] = []
 stacked (w ∷ ws) = stacked_from w ws
 
 -- a direction on the 26 faces: with absolute values a ≥ b ≥ c, a - b on a's axis, b - c on the sum of a's and b's, and c on the sum of all
-abbrev pub many_weights_lem : ℤ → ℤ → ℤ → List Weight
-many_weights_lem x y z = stacked (sorted (box_weights_lem x y z))
+abbrev pub many_weighting : ℤ → ℤ → ℤ → List Weight
+many_weighting x y z = stacked (sorted (box_weighting x y z))
 
 -- a weight in units of so many, rounded up and rounded down
 abbrev pub rounded_up : ℕ → ℕ

@@ -1,7 +1,7 @@
 // A direction, with what the reaches of the kinds need of it.
 ghost use Rattle.std.specs.Prelude.{◌≡◌, ◌≤◌, map, unsigned_abs};
 ghost use Rattle.hull.specs.Units.{direction_limit, squared};
-ghost use Rattle.hull.specs.Weights.{box_weights_lem, many_weights_lem, divided};
+ghost use Rattle.hull.specs.Weights.{box_weighting, many_weighting, divided};
 ghost use Rattle.integers.specs.Roots.{root_up};
 
 use super::face::FaceWeight;
@@ -19,7 +19,7 @@ pub struct Direction {
     ghost x_in: { unsigned_abs x ≤ direction_limit },
     ghost y_in: { unsigned_abs y ≤ direction_limit },
     ghost z_in: { unsigned_abs z ≤ direction_limit },
-    ghost on_box: { box_weights ≡ map divided (box_weights_lem x y z) },
-    ghost on_many: { many_weights ≡ map divided (many_weights_lem x y z) },
+    ghost on_box: { box_weights ≡ map divided (box_weighting x y z) },
+    ghost on_many: { many_weights ≡ map divided (many_weighting x y z) },
     ghost as_long: { length ≡ root_up (squared x y z) },
 }

@@ -7,17 +7,14 @@ ghost use Rattle.hull.specs.Measures.{Covers, Rounds, Spread, Tight};
 use super::corner::Corner;
 use super::direction::Direction;
 
-// The names of a kind.
-pub trait Named {
+// A kind of bounding volume, by its support function: how far a hull of the kind reaches along a direction.
+pub trait Hull: Copy {
     // its word in a job
     const WORD: &'static str;
 
     // its number of faces
     const FACES: usize;
-}
 
-// A kind of bounding volume, by its support function: how far a hull of the kind reaches along a direction.
-pub trait Hull: Copy + Named {
     // the hull of one corner, and a hull with one more corner
     ghost begun: { Corner → Self };
 

@@ -12,5 +12,5 @@ mod range;
 pub use corner::Corner;
 pub use direction::Direction;
 pub use face::{Face, FaceWeight};
-pub use kind::{Hull, Named};
+pub use kind::Hull;
 pub use range::within;

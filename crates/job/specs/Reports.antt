@@ -1,7 +1,7 @@
 -- The report on the bytes of a job.
 use Rattle.std.specs.Prelude.{◌≡◌, ℕ, List, pos, Some, None, Option}
 use Rattle.faced.specs.Hulls.{box_begun, box_grown, box_reach, box_unrounded, many_begun, many_grown, many_reach, many_unrounded}
-use Rattle.ball.specs.Balls.{ball_begun, ball_grown, ball_reach_lem}
+use Rattle.ball.specs.Balls.{ball_begun, ball_grown, reach_of_ball}
 use Rattle.book.specs.declared.call.Request.{Request}
 use Rattle.book.specs.Books.{opened}
 use Rattle.jobtext.specs.declared.fault.Blame.{Blame}
@@ -19,7 +19,7 @@ abbrev pub Reported : Option Fault → List Request → List Blame → Option Ki
 Reported fault requests blames None text = text ≡ fault_line fault
 Reported fault requests blames (Some Box) text = Prints box_begun box_grown box_reach (Unit {0}) box_unrounded fault 0 (opened mark job_items) requests blames text
 Reported fault requests blames (Some Many) text = Prints many_begun many_grown many_reach (Unit {0}) many_unrounded fault 0 (opened mark job_items) requests blames text
-Reported fault requests blames (Some Ball) text = Prints ball_begun ball_grown ball_reach_lem ⊥ (λ _ _. pos 0) fault 0 (opened mark job_items) requests blames text
+Reported fault requests blames (Some Ball) text = Prints ball_begun ball_grown reach_of_ball ⊥ (λ _ _. pos 0) fault 0 (opened mark job_items) requests blames text
 
 -- the report on the bytes of a job
 pub record Reports (bytes text : List ℕ) : Type 0 where

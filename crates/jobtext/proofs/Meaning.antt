@@ -13,7 +13,7 @@ use Rattle.jobtext.specs.Forms.{Form, facet, tie, placement, start, close}
 use Rattle.jobtext.specs.Jobs.{Object, Job, Says, SaysRows, Table, Spells, asks, object_asks, row_blames, object_blames, blames, Meant}
 use Rattle.jobtext.specs.Numbers.{count_of, number_of}
 use Rattle.jobtext.specs.Readings.{Read, Entry, Stretch, Reading, requests_of, blames_of, due, follow, headed, numbers, before, asked, then, onward, rows, facets_of, ties_of, placements_of, finished, body_of, begun, reading_of}
-use Rattle.jobtext.specs.Sections.{opens, opening, kind_of, kind_word_lem}
+use Rattle.jobtext.specs.Sections.{opens, opening, kind_of, word_of_kind}
 use Rattle.jobtext.specs.Words.{Word}
 use Rattle.jobtext.proofs.Rows.{asked_at, row_read}
 
@@ -55,7 +55,7 @@ unfolding opens
 name_right s = rw ((bytes_eq-Decides (opening s) (opening s)).1 refl) refl
 
 -- the word of a kind
-kind_right : (k : Kind) → kind_of (kind_word_lem k) ≡ Some k
+kind_right : (k : Kind) → kind_of (word_of_kind k) ≡ Some k
 unfolding kind_of
 kind_right kind.Box = refl
 kind_right kind.Many = refl
@@ -163,6 +163,6 @@ unfolding reading_of
 spelled_read j ws h =
     let told : reading_of ws ≡ record { kind = Some j.kind; entries = entries_of j; fault = None } =
     ap (λ (l : List Word). begun (headed kind_of section.Kind l)) h.are
-    ∙ ap begun (headed_right kind_of section.Kind (kind_word_lem j.kind) _ j.kind (kind_right j.kind))
+    ∙ ap begun (headed_right kind_of section.Kind (word_of_kind j.kind) _ j.kind (kind_right j.kind))
     ∙ ap (λ (t : Stretch). record { kind = Some j.kind; entries = t.entries; fault = result_err t.ends }) (body_read j ws h) in
     subst (λ (t : Reading). Meant j t) (sym told) (record { kind = refl; requests = entries_ask j; blamed = entries_blame j; fault = refl })

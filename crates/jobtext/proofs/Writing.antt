@@ -14,7 +14,7 @@ use Rattle.jobtext.specs.declared.section.Section.TheVariants as section
 use Rattle.jobtext.specs.Forms.{Form, facet, tie, placement}
 use Rattle.jobtext.specs.Jobs.{Job, Says, SaysRows, Table, Spells}
 use Rattle.jobtext.specs.Numbers.{count_of, number_of}
-use Rattle.jobtext.specs.Sections.{opening, kind_word_lem}
+use Rattle.jobtext.specs.Sections.{opening, word_of_kind}
 use Rattle.jobtext.specs.Words.{Word, separator, ended, words_after, words}
 use Rattle.jobtext.specs.Writing.{section_words, job_words, spaced, written, Writable, Complete}
 use Rattle.jobtext.proofs.Numerals.{is_count_lem, minus_yes, minus_no, number_some}
@@ -93,7 +93,7 @@ opening_solid section.Facets2 = record { some = omega arith; letters = search ru
 opening_solid section.Ties2 = record { some = omega arith; letters = search rules }
 opening_solid section.Placements = record { some = omega arith; letters = search rules }
 
-kind_solid : (k : Kind) → Solid (kind_word_lem k)
+kind_solid : (k : Kind) → Solid (word_of_kind k)
 kind_solid kind.Box = record { some = omega arith; letters = search rules }
 kind_solid kind.Many = record { some = omega arith; letters = search rules }
 kind_solid kind.Ball = record { some = omega arith; letters = search rules }

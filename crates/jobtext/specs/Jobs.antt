@@ -9,7 +9,7 @@ use Rattle.jobtext.specs.declared.section.Section.TheVariants as section
 use Rattle.jobtext.specs.Forms.{Form, facet, tie, placement, start, close}
 use Rattle.jobtext.specs.Numbers.{count_of, number_of}
 use Rattle.jobtext.specs.Readings.{Reading, requests_of, blames_of}
-use Rattle.jobtext.specs.Sections.{opening, kind_word_lem}
+use Rattle.jobtext.specs.Sections.{opening, word_of_kind}
 use Rattle.jobtext.specs.Words.{Word}
 
 -- the numbers of the facets and of the ties
@@ -57,7 +57,7 @@ pub record Spells (j : Job) (ws : List Word) : Type 0 where
   pub in_facets2 : Table facet section.Facets2 j.standing.facets facets2
   pub in_ties2 : Table tie section.Ties2 j.standing.ties ties2
   pub in_placements : Table placement section.Placements j.placements placements
-  pub are : ws ≡ opening section.Kind ∷ kind_word_lem j.kind ∷ (facets ++ (ties ++ (facets2 ++ (ties2 ++ placements))))
+  pub are : ws ≡ opening section.Kind ∷ word_of_kind j.kind ∷ (facets ++ (ties ++ (facets2 ++ (ties2 ++ placements))))
 
 -- an object is started, its facets and ties are entered, and it is closed
 abbrev pub object_asks : Object → List Request

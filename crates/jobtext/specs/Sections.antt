@@ -26,10 +26,10 @@ name Ties2 = codes "ties2"
 name Placements = codes "placements"
 
 -- the word for a kind
-abbrev pub kind_word_lem : Kind → Word
-kind_word_lem kind.Box = codes "box"
-kind_word_lem kind.Many = codes "many"
-kind_word_lem kind.Ball = codes "ball"
+abbrev pub word_of_kind : Kind → Word
+word_of_kind kind.Box = codes "box"
+word_of_kind kind.Many = codes "many"
+word_of_kind kind.Ball = codes "ball"
 
 -- does the word open the section?
 unfoldable pub opens : Section → Word → Option (Unit {0})
@@ -38,4 +38,4 @@ opens s w = cond (bytes_eq w (opening s)) (Some tt) None
 -- the kind that a word names
 unfoldable pub kind_of : Word → Option Kind
 kind_of w =
-    cond (bytes_eq w (kind_word_lem kind.Box)) (Some kind.Box) (cond (bytes_eq w (kind_word_lem kind.Many)) (Some kind.Many) (cond (bytes_eq w (kind_word_lem kind.Ball)) (Some kind.Ball) None))
+    cond (bytes_eq w (word_of_kind kind.Box)) (Some kind.Box) (cond (bytes_eq w (word_of_kind kind.Many)) (Some kind.Many) (cond (bytes_eq w (word_of_kind kind.Ball)) (Some kind.Ball) None))

@@ -6,7 +6,7 @@ use Rattle.jobtext.specs.declared.section.Section.{Section}
 use Rattle.jobtext.specs.declared.section.Section.TheVariants as section
 use Rattle.jobtext.specs.Forms.{Form, facet, tie, placement}
 use Rattle.jobtext.specs.Jobs.{Job}
-use Rattle.jobtext.specs.Sections.{opening, kind_word_lem}
+use Rattle.jobtext.specs.Sections.{opening, word_of_kind}
 use Rattle.jobtext.specs.Words.{Word}
 
 -- the words of a section, with decimal numbers
@@ -16,7 +16,7 @@ section_words s rs = opening s ∷ decimal (length rs) ∷ flat_map (map signed_
 -- the words of a job
 abbrev pub job_words : Job → List Word
 job_words j =
-    opening section.Kind ∷ kind_word_lem j.kind ∷ (section_words section.Facets j.moved.facets ++ (section_words section.Ties j.moved.ties ++ (section_words section.Facets2 j.standing.facets ++ (section_words section.Ties2 j.standing.ties ++ section_words section.Placements j.placements))))
+    opening section.Kind ∷ word_of_kind j.kind ∷ (section_words section.Facets j.moved.facets ++ (section_words section.Ties j.moved.ties ++ (section_words section.Facets2 j.standing.facets ++ (section_words section.Ties2 j.standing.ties ++ section_words section.Placements j.placements))))
 
 -- a space after each word
 abbrev pub spaced : List Word → List ℕ

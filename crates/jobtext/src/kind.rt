@@ -1,6 +1,6 @@
 // The kind of a job's hulls.
 ghost use Rattle.std.specs.Prelude.{◌≡◌};
-ghost use Rattle.jobtext.specs.Sections.{kind_word_lem, kind_of};
+ghost use Rattle.jobtext.specs.Sections.{word_of_kind, kind_of};
 
 use super::text::is_text;
 
@@ -14,7 +14,7 @@ pub enum Kind {
 impl Kind {
     // The word for the kind.
     pub fn word(self) -> &'static str
-        ensures { result.now ≡ kind_word_lem self }
+        ensures { result.now ≡ word_of_kind self }
     {
         match self {
             Kind::Box => "box",

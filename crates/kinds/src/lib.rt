@@ -3,7 +3,7 @@
 
 ghost use Rattle.std.specs.Prelude.{pos, length};
 ghost use Rattle.faced.specs.Hulls.{box_begun, box_grown, box_reach, box_unrounded, many_begun, many_grown, many_reach, many_unrounded};
-ghost use Rattle.ball.specs.Balls.{ball_begun, ball_grown, ball_reach_lem};
+ghost use Rattle.ball.specs.Balls.{ball_begun, ball_grown, reach_of_ball};
 ghost use Rattle.walks.specs.Runs.{Replayed};
 
 use ball::BallHull;
@@ -48,7 +48,7 @@ pub fn replay_ball(
     places: usize,
     lists: &mut [(u32, u32)],
 )
-    ensures { Replayed ball_begun ball_grown ball_reach_lem ⊥ (λ _ _. pos 0) mark (length table.old) requests.now answers.old answers.new places lists.old lists.new }
+    ensures { Replayed ball_begun ball_grown reach_of_ball ⊥ (λ _ _. pos 0) mark (length table.old) requests.now answers.old answers.new places lists.old lists.new }
 {
     replay_requests::<BallHull, _>(mark, table, requests, answers, places, lists);
 }

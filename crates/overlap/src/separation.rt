@@ -1,6 +1,6 @@
 // Two hulls along the axes of a placement. They come as two references and in no record, since a register's table holds them apart.
 ghost use Rattle.std.specs.Prelude.{◌≡◌, ◌^◌, ◌≤◌, T, ◌+ℤ◌, ◌-ℤ◌, neg_ℤ, MatchOption, unsigned_abs};
-ghost use Rattle.pairs.specs.Gaps.{first_gap_lem, second_gap_lem, Parts, GapsAt, Parted};
+ghost use Rattle.pairs.specs.Gaps.{gap_over_standing, gap_over_moved, Parts, GapsAt, Parted};
 ghost use Rattle.pairs.specs.Claims.{TouchingUnparted, UnpartedNear, PartedUnrounded, UnpartedUnroundedNear};
 ghost use Rattle.pairs.specs.Units.{axis_count};
 
@@ -18,7 +18,7 @@ fn room<H: Hull>(below: &H, up: &Direction, above: &H, down: &Direction, lift: i
 
 // The room between the standing hull's upper end and the moved hull's lower end along the axis.
 pub fn first_gap<H: Hull>(axis: &SeparatingAxis, moved: &H, standing: &H) -> i128
-    ensures { result ≡ first_gap_lem (H.reaches moved.now) (H.reaches standing.now) axis.now }
+    ensures { result ≡ gap_over_standing (H.reaches moved.now) (H.reaches standing.now) axis.now }
 {
     let lift = axis.shift as i128;
     room(standing, &axis.standing_up, moved, &axis.moved_down, lift)
@@ -26,7 +26,7 @@ pub fn first_gap<H: Hull>(axis: &SeparatingAxis, moved: &H, standing: &H) -> i12
 
 // The room between the moved hull's upper end and the standing hull's lower end along the axis.
 pub fn second_gap<H: Hull>(axis: &SeparatingAxis, moved: &H, standing: &H) -> i128
-    ensures { result ≡ second_gap_lem (H.reaches moved.now) (H.reaches standing.now) axis.now }
+    ensures { result ≡ gap_over_moved (H.reaches moved.now) (H.reaches standing.now) axis.now }
 {
     let lift = -(axis.shift as i128);
     room(moved, &axis.moved_up, standing, &axis.standing_down, lift)

@@ -7,31 +7,31 @@ use Rattle.hull.specs.declared.direction.Direction.{Direction}
 use Rattle.placement.specs.declared.parts.Placement.{Placement}
 use Rattle.pairs.specs.declared.axis.SeparatingAxis.{SeparatingAxis}
 use Rattle.pairs.specs.Units.{fixed_count, axis_count}
-use Rattle.pairs.specs.Axes.{fixed_axes, no_fixed, as_axis, turned, axes_of_lem, no_axis, axis_at}
+use Rattle.pairs.specs.Axes.{fixed_axes, no_fixed, as_axis, turned, axes_under, no_axis, axis_at}
 use Rattle.pairs.specs.Gaps.{Parts, Parted, rounded_axis, separating_axes}
 
 module _ (p : Placement) where
   pub fixed_at : (i : ℕ) → i < fixed_count → axis_at p i ≡ as_axis (get_or fixed_axes i no_fixed)
-  unfolding axis_at axes_of_lem
+  unfolding axis_at axes_under
   fixed_at i h = get_or_append_left (map as_axis fixed_axes) (map (turned p) fixed_axes) no_axis i h ∙ get_or-map as_axis fixed_axes i no_fixed no_axis h
 
   pub turned_at : (i : ℕ) → fixed_count ≤ i → i < axis_count → axis_at p i ≡ turned p (get_or fixed_axes (i - fixed_count) no_fixed)
-  unfolding axis_at axes_of_lem
+  unfolding axis_at axes_under
   turned_at i h k =
       let l : i - fixed_count < fixed_count = omega arith in
       get_or-append_right (map as_axis fixed_axes) (map (turned p) fixed_axes) fixed_count i no_axis refl h ∙ get_or-map (turned p) fixed_axes (i - fixed_count) no_fixed no_axis l
 
-  axes_length : length (axes_of_lem p) ≡ axis_count
-  unfolding axes_of_lem
+  axes_length : length (axes_under p) ≡ axis_count
+  unfolding axes_under
   axes_length = refl
 
   separating_length : length (separating_axes p) ≡ axis_count
   unfolding separating_axes
-  separating_length = length-map (axes_of_lem p) (rounded_axis p) ∙ axes_length
+  separating_length = length-map (axes_under p) (rounded_axis p) ∙ axes_length
 
   separating_at : (i : ℕ) (d : SeparatingAxis) → i < axis_count → get_or (separating_axes p) i d ≡ rounded_axis p (axis_at p i)
   unfolding separating_axes axis_at
-  separating_at i d h = get_or-map (rounded_axis p) (axes_of_lem p) i no_axis d (subst (λ (n : ℕ). i < n) (sym axes_length) h)
+  separating_at i d h = get_or-map (rounded_axis p) (axes_under p) i no_axis d (subst (λ (n : ℕ). i < n) (sym axes_length) h)
 
   -- ---- a list made of them, one by one
   pub all_made : (each : List SeparatingAxis) → length each ≡ axis_count → ((i : ℕ) (d : SeparatingAxis) → i < axis_count → get_or each i d ≡ rounded_axis p (axis_at p i)) → each ≡ separating_axes p
@@ -51,7 +51,7 @@ module _ (p : Placement) where
     module _ (f g : Direction → ℤ) where
       pub some_parts : (i : ℕ) (d : SeparatingAxis) → i < axis_count → Parts f g (get_or each i d) → Parted f g p
       unfolding Parted axis_at
-      some_parts i d h k = (axis_at p i, has_get_or (axes_of_lem p) i no_axis (subst (λ (n : ℕ). i < n) (sym axes_length) h), subst (Parts f g) (each_at i d h) k)
+      some_parts i d h k = (axis_at p i, has_get_or (axes_under p) i no_axis (subst (λ (n : ℕ). i < n) (sym axes_length) h), subst (Parts f g) (each_at i d h) k)
 
       pub none_parts : AllByRecursion (λ s. Parts f g s → ⊥) each → Parted f g p → ⊥
       unfolding Parted axis_at

@@ -5,7 +5,7 @@ use Rattle.placement.specs.declared.parts.Placement.{Placement}
 use Rattle.placement.specs.Parts.{triple}
 use Rattle.pairs.specs.Records.{Axis}
 use Rattle.pairs.specs.Products.{shift_along}
-use Rattle.pairs.specs.Axes.{axis_at, axes_of_lem, turned}
+use Rattle.pairs.specs.Axes.{axis_at, axes_under, turned}
 use Rattle.pairs.specs.Directions.{moved_direction, moved_size, standing_size}
 
 abbrev p : Placement
@@ -21,20 +21,20 @@ abbrev l : Axis
 l = axis_at p 14
 
 axis_entries : (l.x ≡ negsuc 204) × (l.y ≡ pos 153) × (l.z ≡ pos 0)
-unfolding axis_at axes_of_lem turned
+unfolding axis_at axes_under turned
 axis_entries = (refl, refl, refl)
 
 -- u = (-629197, 268225843, 0)
 direction_entries : ((moved_direction p l).x ≡ negsuc 629196) × ((moved_direction p l).y ≡ pos 268225843) × ((moved_direction p l).z ≡ pos 0)
-unfolding axis_at axes_of_lem turned moved_direction direction
+unfolding axis_at axes_under turned moved_direction direction
 direction_entries = (refl, refl, refl)
 
 -- U and V
 sizes : (moved_size p l ≡ 268855040) × (standing_size l ≡ 375390208)
-unfolding axis_at axes_of_lem turned moved_direction direction
+unfolding axis_at axes_under turned moved_direction direction
 sizes = (refl, refl)
 
 -- L·T
 shift_product : shift_along p l ≡ pos 36586656
-unfolding axis_at axes_of_lem turned
+unfolding axis_at axes_under turned
 shift_product = refl

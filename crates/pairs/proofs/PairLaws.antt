@@ -13,7 +13,7 @@ use Rattle.placement.specs.Units.{shift_unit}
 use Rattle.pairs.specs.Records.{Axis}
 use Rattle.pairs.specs.Units.{shift_ratio}
 use Rattle.pairs.specs.Products.{image_along, corner_along, shift_along, apart}
-use Rattle.pairs.specs.Axes.{axes_of_lem}
+use Rattle.pairs.specs.Axes.{axes_under}
 use Rattle.pairs.specs.Directions.{moved_direction, standing_direction, opposite, separating, moved_size, standing_size}
 use Rattle.pairs.specs.Gaps.{Parts, GapsWithin, rounded_axis, unrounded_axis, Parted}
 use Rattle.pairs.specs.Facets.{Facet, corners, SharesPoint}
@@ -150,13 +150,13 @@ module _ (p : Placement) (F G : List Corner → Type 0) (f g : Direction → ℤ
       let (l, m, n) = is k in no_rooms p l f g c d (λ u. bf c u fc) (λ u. bg d u gd) v w hv hw s (gaps_as_rooms p l f g shift_ratio n)
 
   -- an axis of a placement that does not part the hulls, where they are not parted
-  unparted : (l : Axis) → Has (axes_of_lem p) l → (Parted f g p → ⊥) → Parts f g (rounded_axis p l) → ⊥
+  unparted : (l : Axis) → Has (axes_under p) l → (Parted f g p → ⊥) → Parts f g (rounded_axis p l) → ⊥
   unfolding Parted
   unparted l m n k = n (l, m, k)
 
   -- what holds along each axis that does not part the hulls holds along all, where they are not parted
-  each_axis : (Q : Axis → Type 0) → ((l : Axis) → (Parts f g (rounded_axis p l) → ⊥) → Q l) → (Parted f g p → ⊥) → AllByRecursion Q (axes_of_lem p)
-  each_axis Q q n = All-weaker (Has (axes_of_lem p)) Q (λ l m. q l (unparted l m n)) (axes_of_lem p) (all_has_itself (axes_of_lem p))
+  each_axis : (Q : Axis → Type 0) → ((l : Axis) → (Parts f g (rounded_axis p l) → ⊥) → Q l) → (Parted f g p → ⊥) → AllByRecursion Q (axes_under p)
+  each_axis Q q n = All-weaker (Has (axes_under p)) Q (λ l m. q l (unparted l m n)) (axes_under p) (all_has_itself (axes_under p))
 
   pub unparted_near : ((c : List Corner) (u : Direction) (s : ℕ) → F c → Spread s c → Tight (f u) u s c) → ((c : List Corner) (u : Direction) (s : ℕ) → G c → Spread s c → Tight (g u) u s c) → (parted : Type 0) → (Parted f g p → parted) → UnpartedNear p F G parted
   unfolding UnpartedNear

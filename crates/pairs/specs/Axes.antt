@@ -67,9 +67,9 @@ abbrev pub no_axis : Axis
 no_axis = as_axis no_fixed
 
 -- the 26 axes of a placement
-unfoldable pub axes_of_lem : Placement → List Axis
-axes_of_lem p = map as_axis fixed_axes ++ map (turned p) fixed_axes
+unfoldable pub axes_under : Placement → List Axis
+axes_under p = map as_axis fixed_axes ++ map (turned p) fixed_axes
 
 -- the one at a place of the list, counted from 0
 unfoldable pub axis_at : Placement → ℕ → Axis
-axis_at p i = slice_index_or (axes_of_lem p) i no_axis
+axis_at p i = slice_index_or (axes_under p) i no_axis

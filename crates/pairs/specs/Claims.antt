@@ -9,7 +9,7 @@ use Rattle.hull.specs.Units.{slack, rounding}
 use Rattle.placement.specs.declared.parts.Placement.{Placement}
 use Rattle.pairs.specs.Records.{Axis}
 use Rattle.pairs.specs.Products.{apart}
-use Rattle.pairs.specs.Axes.{axes_of_lem}
+use Rattle.pairs.specs.Axes.{axes_under}
 use Rattle.pairs.specs.Directions.{moved_size, standing_size}
 use Rattle.pairs.specs.Gaps.{Parts, GapsWithin, rounded_axis, unrounded_axis}
 use Rattle.pairs.specs.Facets.{Facet, corners, SharesPoint}
@@ -21,7 +21,7 @@ module _ (p : Placement) (fits_h fits_k : List Corner → Type 0) where
 
   -- what is not parted is near: every corner of the one list and every corner of the other, along each axis
   unfoldable pub UnpartedNear : Type 0 → Type 0
-  UnpartedNear parted = (c d : List Corner) (s t : ℕ) → fits_h c → fits_k d → Spread s c → Spread t d → (parted → ⊥) → AllByRecursion (λ l. AllByRecursion (λ v. AllByRecursion (λ w. apart p l v w ≤ 3 * (moved_size p l * (s + 8)) + 3 * (standing_size l * (t + 8)) + 2 * slack) d) c) (axes_of_lem p)
+  UnpartedNear parted = (c d : List Corner) (s t : ℕ) → fits_h c → fits_k d → Spread s c → Spread t d → (parted → ⊥) → AllByRecursion (λ l. AllByRecursion (λ v. AllByRecursion (λ w. apart p l v w ≤ 3 * (moved_size p l * (s + 8)) + 3 * (standing_size l * (t + 8)) + 2 * slack) d) c) (axes_under p)
 
   -- a kind with faces: an axis that parts the hulls parts the unrounded ones
   unfoldable pub PartedUnrounded : Type 0 → (reaches_h reaches_k : Direction → ℤ) → (List Corner → Direction → ℤ) → Type 0
@@ -29,4 +29,4 @@ module _ (p : Placement) (fits_h fits_k : List Corner → Type 0) where
 
   -- a kind with faces: the unrounded hulls of what is not parted are near along each axis
   unfoldable pub UnpartedUnroundedNear : Type 0 → (List Corner → Direction → ℤ) → Type 0 → Type 0
-  UnpartedUnroundedNear faced unrounded parted = faced → (c d : List Corner) → fits_h c → fits_k d → (parted → ⊥) → AllByRecursion (λ l. GapsWithin (2 * rounding + 3 * (moved_size p l + standing_size l)) (unrounded c) (unrounded d) (unrounded_axis p l)) (axes_of_lem p)
+  UnpartedUnroundedNear faced unrounded parted = faced → (c d : List Corner) → fits_h c → fits_k d → (parted → ⊥) → AllByRecursion (λ l. GapsWithin (2 * rounding + 3 * (moved_size p l + standing_size l)) (unrounded c) (unrounded d) (unrounded_axis p l)) (axes_under p)

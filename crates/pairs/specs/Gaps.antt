@@ -7,25 +7,25 @@ use Rattle.placement.specs.Units.{shift_unit}
 use Rattle.pairs.specs.Records.{Axis}
 use Rattle.pairs.specs.declared.axis.SeparatingAxis.{SeparatingAxis}
 use Rattle.pairs.specs.Units.{axis_count, shift_ratio}
-use Rattle.pairs.specs.Axes.{axes_of_lem, axis_at}
+use Rattle.pairs.specs.Axes.{axes_under, axis_at}
 use Rattle.pairs.specs.Directions.{separating}
 
 -- the room between the standing hull's upper end and the moved hull's lower end
-abbrev pub first_gap_lem : (Direction → ℤ) → (Direction → ℤ) → SeparatingAxis → ℤ
-first_gap_lem f g s = neg_ℤ (f s.moved_down) +ℤ s.shift -ℤ g s.standing_up
+abbrev pub gap_over_standing : (Direction → ℤ) → (Direction → ℤ) → SeparatingAxis → ℤ
+gap_over_standing f g s = neg_ℤ (f s.moved_down) +ℤ s.shift -ℤ g s.standing_up
 
 -- the room between the moved hull's upper end and the standing hull's lower end
-abbrev pub second_gap_lem : (Direction → ℤ) → (Direction → ℤ) → SeparatingAxis → ℤ
-second_gap_lem f g s = neg_ℤ (g s.standing_down) -ℤ f s.moved_up -ℤ s.shift
+abbrev pub gap_over_moved : (Direction → ℤ) → (Direction → ℤ) → SeparatingAxis → ℤ
+gap_over_moved f g s = neg_ℤ (g s.standing_down) -ℤ f s.moved_up -ℤ s.shift
 
 -- one of the two gaps is above 0
 abbrev pub Parts : (Direction → ℤ) → (Direction → ℤ) → SeparatingAxis → Type 0
-Parts f g s = (pos 0 <ℤ first_gap_lem f g s) ⊎ (pos 0 <ℤ second_gap_lem f g s)
+Parts f g s = (pos 0 <ℤ gap_over_standing f g s) ⊎ (pos 0 <ℤ gap_over_moved f g s)
 
 -- neither is above n
 pub record GapsWithin (n : ℕ) (f g : Direction → ℤ) (s : SeparatingAxis) : Type 0 where
-  pub first : first_gap_lem f g s ≤ℤ pos n
-  pub second : second_gap_lem f g s ≤ℤ pos n
+  pub first : gap_over_standing f g s ≤ℤ pos n
+  pub second : gap_over_moved f g s ≤ℤ pos n
 
 -- an axis as hulls are tested along it: the shift counts in the unit of a reach
 abbrev pub rounded_axis : Placement → Axis → SeparatingAxis
@@ -37,14 +37,14 @@ unrounded_axis = separating shift_unit
 
 -- all axes of a placement, as hulls are tested along them
 unfoldable pub separating_axes : Placement → List SeparatingAxis
-separating_axes p = map (rounded_axis p) (axes_of_lem p)
+separating_axes p = map (rounded_axis p) (axes_under p)
 
 -- the two gaps along the axis at a place of the placement's list
 pub record GapsAt (f g : Direction → ℤ) (p : Placement) (i : ℕ) (first second : ℤ) : Type 0 where
   pub there : i < axis_count
-  pub first_is : first ≡ first_gap_lem f g (rounded_axis p (axis_at p i))
-  pub second_is : second ≡ second_gap_lem f g (rounded_axis p (axis_at p i))
+  pub first_is : first ≡ gap_over_standing f g (rounded_axis p (axis_at p i))
+  pub second_is : second ≡ gap_over_moved f g (rounded_axis p (axis_at p i))
 
 -- some axis of the placement parts the hulls
 unfoldable pub Parted : (Direction → ℤ) → (Direction → ℤ) → Placement → Type 0
-Parted f g p = (l : Axis) × Has (axes_of_lem p) l × Parts f g (rounded_axis p l)
+Parted f g p = (l : Axis) × Has (axes_under p) l × Parts f g (rounded_axis p l)

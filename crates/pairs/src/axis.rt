@@ -3,7 +3,8 @@ ghost use Rattle.std.specs.Prelude.{◌≤◌, unsigned_abs};
 
 use hull::Direction;
 
-// An axis by its entries, none beyond a limit in size.
+// An axis by its entries, none beyond a limit in size. A corner has such entries too, but it is a point and no direction, and a type of
+// its own keeps the two apart.
 #[derive(Clone, Copy)]
 pub struct BoundedAxis<const LIMIT: u16> {
     pub x: i16,

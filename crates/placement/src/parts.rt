@@ -2,7 +2,8 @@
 ghost use Rattle.std.specs.Prelude.{◌≡◌, ◌^◌, ◌<◌, ◌≤◌, MatchOption, unsigned_abs};
 ghost use Rattle.hull.specs.Units.{Within};
 
-// Three numbers, none beyond a limit in size.
+// Three numbers, none beyond a limit in size. Their width is no parameter, as an invariant can speak of numbers and not of a type
+// parameter.
 #[derive(Clone, Copy)]
 pub struct Triple<const LIMIT: u32> {
     pub x: i32,

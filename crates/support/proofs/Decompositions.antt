@@ -11,7 +11,7 @@ use Rattle.hull.specs.declared.direction.Direction.{Direction}
 use Rattle.hull.specs.declared.face.Face.{Face}
 use Rattle.hull.specs.declared.face.Weight.{Weight}
 use Rattle.hull.specs.Faces.{face, faces, behind, joined, no_face, place, rank, same, Small}
-use Rattle.hull.specs.Weights.{weight, entry, box_weights_lem, insert, sorted, stacked_from, stacked, many_weights_lem, total, Falls, Ranked}
+use Rattle.hull.specs.Weights.{weight, entry, box_weighting, insert, sorted, stacked_from, stacked, many_weighting, total, Falls, Ranked}
 use Rattle.hull.specs.Measures.{along, size}
 use Rattle.hull.proofs.FaceTable.{at_face}
 use Rattle.hull.proofs.WeightLaws.{ex, ey, ez, size_of, along_axis, total_sorted, ranked, small_edge, small_tip}
@@ -25,7 +25,7 @@ on_axis : (P : Face → Type 0) (z : ℤ) (f : Face) → P f → P (behind f) �
 on_axis P (pos n) f a b = a
 on_axis P (negsuc n) f a b = b
 
-box_listed : (x y z : ℤ) → AllByRecursion (λ (w : Weight). Listed 6 w.on) (box_weights_lem x y z)
+box_listed : (x y z : ℤ) → AllByRecursion (λ (w : Weight). Listed 6 w.on) (box_weighting x y z)
 unfolding place
 box_listed x y z = (
   on_axis (Listed 6) x ex (record { within = lit< tt; found = refl }) (record { within = lit< tt; found = refl }),
@@ -49,17 +49,17 @@ entry_product_lem (negsuc n) f v =
 abbrev pull : Corner → Weight → ℤ
 pull v w = pos w.amount *ℤ product w.on v
 
-box_spans : (u : Direction) (v : Corner) → along u v ≡ sum_of (pull v) (box_weights_lem u.x u.y u.z)
+box_spans : (u : Direction) (v : Corner) → along u v ≡ sum_of (pull v) (box_weighting u.x u.y u.z)
 box_spans u v =
     solve (u.x ∷ u.y ∷ u.z ∷ v.x ∷ v.y ∷ v.z ∷ []) (var 0 ⊗ var 3 ⊕ var 1 ⊗ var 4 ⊕ var 2 ⊗ var 5)
     (var 0 ⊗ (# 1 ⊗ var 3 ⊕ # 0 ⊗ var 4 ⊕ # 0 ⊗ var 5) ⊕ (var 1 ⊗ (# 0 ⊗ var 3 ⊕ # 1 ⊗ var 4 ⊕ # 0 ⊗ var 5) ⊕ (var 2 ⊗ (# 0 ⊗ var 3 ⊕ # 0 ⊗ var 4 ⊕ # 1 ⊗ var 5) ⊕ # 0))) refl
     ∙ sym (ap₂ ◌+ℤ◌ (entry_product_lem u.x ex v) (ap₂ ◌+ℤ◌ (entry_product_lem u.y ey v) (ap (λ (k : ℤ). k +ℤ pos 0) (entry_product_lem u.z ez v))))
 
-box_amounts : (u : Direction) → total (λ (w : Weight). w.amount) (box_weights_lem u.x u.y u.z) ≡ size u
+box_amounts : (u : Direction) → total (λ (w : Weight). w.amount) (box_weighting u.x u.y u.z) ≡ size u
 box_amounts u = omega (arith, size_of u.x ex, size_of u.y ey, size_of u.z ez)
 
 -- the axes have one entry each
-box_ranks : (x y z : ℤ) → AllByRecursion (λ (w : Weight). rank w.on ≡ 1) (box_weights_lem x y z)
+box_ranks : (x y z : ℤ) → AllByRecursion (λ (w : Weight). rank w.on ≡ 1) (box_weighting x y z)
 box_ranks x y z = (along_axis rank x ex refl, (along_axis rank y ey refl, (along_axis rank z ez refl, tt)))
 
 -- totals over weights on faces with one entry
@@ -67,13 +67,13 @@ lengths_of : (ws : List Weight) → AllByRecursion (λ (w : Weight). rank w.on �
 lengths_of [] h = refl
 lengths_of (w ∷ ws) h = ap₂ ◌+◌ (ap (λ (n : ℕ). w.amount * n) h.0 ∙ NatL.mul-one w.amount) (lengths_of ws h.1)
 
-pub box_decomposes : (u : Direction) → Decomposes u 6 (box_weights_lem u.x u.y u.z)
+pub box_decomposes : (u : Direction) → Decomposes u 6 (box_weighting u.x u.y u.z)
 box_decomposes u = record {
   few = lit≤ tt;
   listed = box_listed u.x u.y u.z;
   spans = box_spans u;
   amounts = NatL.le_of_eq (box_amounts u);
-  lengths = NatL.le_of_eq (lengths_of (box_weights_lem u.x u.y u.z) (box_ranks u.x u.y u.z) ∙ box_amounts u);
+  lengths = NatL.le_of_eq (lengths_of (box_weighting u.x u.y u.z) (box_ranks u.x u.y u.z) ∙ box_amounts u);
   ranks = let r = box_ranks u.x u.y u.z in omega (arith, r.0, r.1.0, r.1.1.0);
 }
 
@@ -200,12 +200,12 @@ pub record Sorted3 (u : Direction) (ws : List Weight) : Type 0 where
   pub spans : (v : Corner) → along u v ≡ sum_of (pull v) ws
   pub amounts : total (λ (w : Weight). w.amount) ws ≡ size u
 
-pub sorted_axes : (u : Direction) → Sorted3 u (sorted (box_weights_lem u.x u.y u.z))
+pub sorted_axes : (u : Direction) → Sorted3 u (sorted (box_weighting u.x u.y u.z))
 sorted_axes u = record {
   ranked = ranked u.x u.y u.z u.x_in u.y_in u.z_in;
-  ones = all_sorted (λ (w : Weight). rank w.on ≡ 1) (box_weights_lem u.x u.y u.z) (box_ranks u.x u.y u.z);
-  spans = λ v. box_spans u v ∙ sym (sum_sorted (pull v) (box_weights_lem u.x u.y u.z));
-  amounts = total_sorted (λ (w : Weight). w.amount) (box_weights_lem u.x u.y u.z) ∙ box_amounts u;
+  ones = all_sorted (λ (w : Weight). rank w.on ≡ 1) (box_weighting u.x u.y u.z) (box_ranks u.x u.y u.z);
+  spans = λ v. box_spans u v ∙ sym (sum_sorted (pull v) (box_weighting u.x u.y u.z));
+  amounts = total_sorted (λ (w : Weight). w.amount) (box_weighting u.x u.y u.z) ∙ box_amounts u;
 }
 
 stacked_decomposes : (u : Direction) (p q r : Weight) → Sorted3 u (p ∷ q ∷ r ∷ []) → Decomposes u 26 (stacked (p ∷ q ∷ r ∷ []))
@@ -225,6 +225,6 @@ stacked_decomposes u p q r h =
       ranks = omega arith;
     }
 
-pub many_decomposes : (u : Direction) → Decomposes u 26 (many_weights_lem u.x u.y u.z)
+pub many_decomposes : (u : Direction) → Decomposes u 26 (many_weighting u.x u.y u.z)
 many_decomposes u =
     sorted_three (λ ws. Sorted3 u ws → Decomposes u 26 (stacked ws)) (λ p q r. stacked_decomposes u p q r) (entry u.x ex) (entry u.y ey) (entry u.z ez) (sorted_axes u)

@@ -8,7 +8,7 @@ use Rattle.hull.specs.declared.direction.Direction.{Direction}
 use Rattle.hull.specs.declared.face.Face.{Face}
 use Rattle.hull.specs.declared.face.Weight.{Weight}
 use Rattle.hull.specs.Faces.{face, joined}
-use Rattle.hull.specs.Weights.{entry, insert, sorted, stacked, box_weights_lem, many_weights_lem, Falls}
+use Rattle.hull.specs.Weights.{entry, insert, sorted, stacked, box_weighting, many_weighting, Falls}
 use Rattle.support.specs.Supports.{share, support, sum_of, reach_on}
 use Rattle.hull.proofs.WeightLaws.{ex, ey, ez}
 use Rattle.support.specs.Exchange.{orders, InAnyOrder, InAnyOrderAs}
@@ -172,11 +172,11 @@ free_orders g a b c =
       ),
     )
 
-pub in_any_order : (g : List ℤ) (x y z r : ℤ) → r ≡ reach_on (many_weights_lem x y z) g → InAnyOrder g x y z r
+pub in_any_order : (g : List ℤ) (x y z r : ℤ) → r ≡ reach_on (many_weighting x y z) g → InAnyOrder g x y z r
 unfolding InAnyOrderAs
 in_any_order g x y z r e = subst (λ (k : ℤ). InAnyOrder g x y z k) (sym e) (free_orders g (entry x ex) (entry y ey) (entry z ez))
 
-pub many_in_any_order : (u : Direction) (g : List ℤ) → InAnyOrder g u.x u.y u.z (reach_on (many_weights_lem u.x u.y u.z) g)
+pub many_in_any_order : (u : Direction) (g : List ℤ) → InAnyOrder g u.x u.y u.z (reach_on (many_weighting u.x u.y u.z) g)
 many_in_any_order u g = in_any_order g u.x u.y u.z _ refl
 
 -- ---- weights that stay on the axes may come in any order
@@ -189,7 +189,7 @@ sum_orders e a b c = let s = turned (e a) (e b) (e c) in (λ n h. refl, (λ n h.
     turned : (x y z : ℤ) → (three x z y ≡ three x y z) × (three y x z ≡ three x y z) × (three y z x ≡ three x y z) × (three z x y ≡ three x y z) × (three z y x ≡ three x y z)
     turned x y z = (omega (arith, ints), omega (arith, ints), omega (arith, ints), omega (arith, ints), omega (arith, ints))
 
-pub box_in_any_order : (u : Direction) (g : List ℤ) → InAnyOrderAs (λ ws. ws) g u.x u.y u.z (reach_on (box_weights_lem u.x u.y u.z) g)
+pub box_in_any_order : (u : Direction) (g : List ℤ) → InAnyOrderAs (λ ws. ws) g u.x u.y u.z (reach_on (box_weighting u.x u.y u.z) g)
 unfolding InAnyOrderAs reach_on
 box_in_any_order u g =
     sum_orders (λ (w : Weight). share w.amount (support g w.on)) (entry u.x ex) (entry u.y ey) (entry u.z ez)

@@ -8,8 +8,8 @@ use Rattle.touch.specs.declared.stop.Stop.TheVariants.{Refused, LargerObject, Ou
 use Rattle.touch.specs.Faults.{refusal_line}
 
 -- the lines of a placement at which two facets are parted, or not
-abbrev pub placement_lines_lem : ℕ → Bool → List ℕ
-placement_lines_lem i parted =
+abbrev pub lines_of_placement : ℕ → Bool → List ℕ
+lines_of_placement i parted =
     codes "placement " ++ (decimal i ++ cond parted (codes ": 0 pairs, 1 tests\n") (codes ": 1 pairs, 1 tests\n0 0\n"))
 
 -- the last line of a report that ends before the job does

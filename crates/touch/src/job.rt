@@ -7,7 +7,7 @@ ghost use Rattle.jobtext.specs.Words.{job_limit};
 ghost use Rattle.touch.specs.declared.refusal.Fault.TheVariants.{Call};
 ghost use Rattle.touch.specs.Due.{NotRead};
 ghost use Rattle.touch.specs.Facets.{InRange, corners, entries};
-ghost use Rattle.touch.specs.Reports.{placement_lines_lem, stop_line, too_long};
+ghost use Rattle.touch.specs.Reports.{lines_of_placement, stop_line, too_long};
 
 use super::refusal::{Fault, Refusal};
 use super::rows::read_row;
@@ -54,7 +54,7 @@ fn read_object<H: Hull>(input: &mut Words, facets: Section, ties: Section) -> Re
 
 // The lines of a placement.
 fn placement_lines(heap: Global, index: u64, is_parted: bool) -> Result<String, AllocError>
-    ensures { IfOk result (λ s. string_bytes s ≡ placement_lines_lem index is_parted) }
+    ensures { IfOk result (λ s. string_bytes s ≡ lines_of_placement index is_parted) }
 {
     if is_parted {
         format!(in heap; "placement {index}: 0 pairs, 1 tests\n")

@@ -7,8 +7,8 @@ use Rattle.std.proofs.ByRecursion.{all-has, has_get_or, has_append_right}
 use Rattle.hull.specs.declared.direction.Direction.{Direction}
 use Rattle.placement.specs.declared.parts.Placement.{Placement}
 use Rattle.pairs.specs.Records.{Axis}
-use Rattle.pairs.specs.Axes.{axes_of_lem}
-use Rattle.pairs.specs.Gaps.{first_gap_lem, second_gap_lem, Parts, Parted, rounded_axis}
+use Rattle.pairs.specs.Axes.{axes_under}
+use Rattle.pairs.specs.Gaps.{gap_over_standing, gap_over_moved, Parts, Parted, rounded_axis}
 
 true_of : (b : Bool) → T b → b ≡ true
 true_of true t = refl
@@ -19,21 +19,21 @@ is_true b e = subst T (sym e) tt
 
 module _ (f g : Direction → ℤ) (p : Placement) where
   abbrev parts? : Axis → Bool
-  parts? l = lt_z (pos 0) (first_gap_lem f g (rounded_axis p l)) || lt_z (pos 0) (second_gap_lem f g (rounded_axis p l))
+  parts? l = lt_z (pos 0) (gap_over_standing f g (rounded_axis p l)) || lt_z (pos 0) (gap_over_moved f g (rounded_axis p l))
 
   abbrev some? : List Axis → Bool
   some? [] = false
   some? (l ∷ ls) = parts? l || some? ls
 
   unfoldable pub parted? : Bool
-  parted? = some? (axes_of_lem p)
+  parted? = some? (axes_under p)
 
   parts_is : (l : Axis) → parts? l ≡ true → Parts f g (rounded_axis p l)
-  parts_is l h = ⊎_elim (λ e. inl (lt_z_yes (is_true _ e))) (λ e. inr (lt_z_yes (is_true _ e))) (or_cases (lt_z (pos 0) (first_gap_lem f g (rounded_axis p l))) (lt_z (pos 0) (second_gap_lem f g (rounded_axis p l))) h)
+  parts_is l h = ⊎_elim (λ e. inl (lt_z_yes (is_true _ e))) (λ e. inr (lt_z_yes (is_true _ e))) (or_cases (lt_z (pos 0) (gap_over_standing f g (rounded_axis p l))) (lt_z (pos 0) (gap_over_moved f g (rounded_axis p l))) h)
 
   parts_yes : (l : Axis) → Parts f g (rounded_axis p l) → parts? l ≡ true
-  parts_yes l (inl k) = or_left (lt_z (pos 0) (first_gap_lem f g (rounded_axis p l))) (lt_z (pos 0) (second_gap_lem f g (rounded_axis p l))) (true_of _ k.lt)
-  parts_yes l (inr k) = or_right (lt_z (pos 0) (first_gap_lem f g (rounded_axis p l))) (lt_z (pos 0) (second_gap_lem f g (rounded_axis p l))) (true_of _ k.lt)
+  parts_yes l (inl k) = or_left (lt_z (pos 0) (gap_over_standing f g (rounded_axis p l))) (lt_z (pos 0) (gap_over_moved f g (rounded_axis p l))) (true_of _ k.lt)
+  parts_yes l (inr k) = or_right (lt_z (pos 0) (gap_over_standing f g (rounded_axis p l))) (lt_z (pos 0) (gap_over_moved f g (rounded_axis p l))) (true_of _ k.lt)
 
   some_is : (ls : List Axis) → some? ls ≡ true → (l : Axis) × Has ls l × Parts f g (rounded_axis p l)
   some_is [] h = absurd (let z : ◌≡◌ {A = ℕ} 0 1 = cc in omega arith)
@@ -52,12 +52,12 @@ module _ (f g : Direction → ℤ) (p : Placement) where
 
   pub parted_is : parted? ≡ true → Parted f g p
   unfolding parted? Parted
-  parted_is h = some_is (axes_of_lem p) h
+  parted_is h = some_is (axes_under p) h
 
   pub parted_not : parted? ≡ false → Parted f g p → ⊥
   unfolding parted? Parted
   parted_not h (l, m, k) =
-      let n = all-has (λ l. parts? l ≡ false) (axes_of_lem p) l (none_of (axes_of_lem p) h) m in
+      let n = all-has (λ l. parts? l ≡ false) (axes_under p) l (none_of (axes_under p) h) m in
       let y = parts_yes l k in
       let z : ◌≡◌ {A = ℕ} 0 1 = cc in omega arith
 

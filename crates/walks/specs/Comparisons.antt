@@ -9,7 +9,7 @@ use Rattle.hull.specs.Measures.{Spread}
 use Rattle.placement.specs.declared.parts.Placement.{Placement}
 use Rattle.pairs.specs.Records.{Axis}
 use Rattle.pairs.specs.Products.{apart}
-use Rattle.pairs.specs.Axes.{axes_of_lem}
+use Rattle.pairs.specs.Axes.{axes_under}
 use Rattle.pairs.specs.Directions.{moved_size, standing_size}
 use Rattle.pairs.specs.Gaps.{Parts, GapsWithin, Parted, unrounded_axis}
 use Rattle.pairs.specs.Facets.{SharesPoint}
@@ -53,7 +53,7 @@ module _ (o q : List Item) (p : Placement) (pairs : List (ℕ × ℕ)) where
   -- what is listed is a pair of facets whose corners are near along each axis
   pub record Tight : Type 0 where
     pub facets : (m n : ℕ) → Memᴰ (m, n) pairs → (e : Facet) × (f : Facet) × IsFacet o m e × IsFacet q n f
-    pub near : (m n : ℕ) (e f : Facet) → Memᴰ (m, n) pairs → IsFacet o m e → IsFacet q n f → (s t : ℕ) → Spread s (corners_of e) → Spread t (corners_of f) → AllByRecursion (λ l. AllByRecursion (λ v. AllByRecursion (λ w. apart p l v w ≤ 3 * (moved_size p l * (s + 8)) + 3 * (standing_size l * (t + 8)) + 2 * slack) (corners_of f)) (corners_of e)) (axes_of_lem p)
+    pub near : (m n : ℕ) (e f : Facet) → Memᴰ (m, n) pairs → IsFacet o m e → IsFacet q n f → (s t : ℕ) → Spread s (corners_of e) → Spread t (corners_of f) → AllByRecursion (λ l. AllByRecursion (λ v. AllByRecursion (λ w. apart p l v w ≤ 3 * (moved_size p l * (s + 8)) + 3 * (standing_size l * (t + 8)) + 2 * slack) (corners_of f)) (corners_of e)) (axes_under p)
 
   -- with unrounded reaches
   module _ (unrounded : List Corner → Direction → ℤ) where
@@ -64,14 +64,14 @@ module _ (o q : List Item) (p : Placement) (pairs : List (ℕ × ℕ)) where
       pub above_m : Under o m i
       pub above_n : Under q n j
       pub axis : Axis
-      pub its : Has (axes_of_lem p) axis
+      pub its : Has (axes_under p) axis
       pub parts : Parts (unrounded (corners (tree o i))) (unrounded (corners (tree q j))) (unrounded_axis p axis)
 
     pub record Exact : Type 0 where
       -- what is left out lies under items whose unrounded hulls are parted
       pub left_out : (m n : ℕ) (e f : Facet) → IsFacet o m e → IsFacet q n f → (Memᴰ (m, n) pairs → ⊥) → PartedAbove m n
       -- and the unrounded hulls of what is listed are near along each axis
-      pub close : (m n : ℕ) (e f : Facet) → Memᴰ (m, n) pairs → IsFacet o m e → IsFacet q n f → AllByRecursion (λ l. GapsWithin (2 * rounding + 3 * (moved_size p l + standing_size l)) (unrounded (corners_of e)) (unrounded (corners_of f)) (unrounded_axis p l)) (axes_of_lem p)
+      pub close : (m n : ℕ) (e f : Facet) → Memᴰ (m, n) pairs → IsFacet o m e → IsFacet q n f → AllByRecursion (λ l. GapsWithin (2 * rounding + 3 * (moved_size p l + standing_size l)) (unrounded (corners_of e)) (unrounded (corners_of f)) (unrounded_axis p l)) (axes_under p)
 
 -- all that is known of the list of an accepted comparison
 module _ {H : Type 0} (begun : Corner → H) (grown : H → Corner → H) (reaches : H → Direction → ℤ) (faced : Type 0) (unrounded : List Corner → Direction → ℤ) where

@@ -2,7 +2,7 @@ use Rattle.std.proofs.Common.{◌≡◌, ◌<◌, length, ap, ◌∙◌, arith, 
 use mir.Syntax.{w128}
 use Rattle.std.proofs.lemmas.Int.{to_z-of_z}
 use Rattle.pairs.specs.Units.{axis_count}
-use Rattle.pairs.specs.Gaps.{first_gap_lem, second_gap_lem}
+use Rattle.pairs.specs.Gaps.{gap_over_standing, gap_over_moved}
 use Rattle.pairs.proofs.AxisLaws.{each_at}
 use Rattle.overlap.proofs.separation.gaps.Goals as goal
 
@@ -19,6 +19,6 @@ returns g c =
     let f2 : SFits w128 c.second_gap.result = search rules in
     record {
       there = h;
-      first_is = simp to_z-of_z (c.first_gap.ensures ∙ ap (first_gap_lem f k) e);
-      second_is = simp to_z-of_z (c.second_gap.ensures ∙ ap (second_gap_lem f k) e);
+      first_is = simp to_z-of_z (c.first_gap.ensures ∙ ap (gap_over_standing f k) e);
+      second_is = simp to_z-of_z (c.second_gap.ensures ∙ ap (gap_over_moved f k) e);
     }
