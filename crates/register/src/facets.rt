@@ -35,6 +35,7 @@ impl Draft {
         if !register.holds(&self) {
             return (self, Err(Refusal::NotThisDraft));
         }
+        // No `?`, here and in tie, as a refusal hands the draft back beside it.
         let Some(facet) = Facet::new(numbers) else {
             return (self, Err(Refusal::OutOfRange));
         };

@@ -94,6 +94,7 @@ impl History {
 
     // Replays the calls with hulls of the history's kind.
     fn replayed(&self, heap: Global) -> Result<Outcome, AllocError> {
+        // Each kind has a type of hulls of its own, and a table of functions would be no plainer than these arms.
         match self.opening.kind {
             Kind::Box => self.replayed_with::<BoxHull>(heap),
             Kind::Many => self.replayed_with::<ManyHull>(heap),

@@ -84,6 +84,7 @@ fn follow(heap: Global, job: &[u8], report: &mut String) -> Result<(), Stop>
     ensures same { job_limit < length job.now → string_bytes report.new ≡ string_bytes report.old }
 {
     let mut input = Words::new(job)?;
+    // Each kind has a type of hulls of its own, and a table of functions would be no plainer than these arms.
     match input.kind()? {
         Kind::Box => compare::<BoxHull>(heap, &mut input, report),
         Kind::Many => compare::<ManyHull>(heap, &mut input, report),

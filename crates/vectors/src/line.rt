@@ -54,7 +54,7 @@ fn parting_agrees<H: Hull>(n: &[i128]) -> Option<bool> {
     }
 }
 
-// Whether the vector of a kind agrees.
+// Whether the vector of a kind agrees. The numbers are read otherwise for each sort, so each has a function of its own.
 fn agrees<H: Hull>(sort: Sort, n: &[i128]) -> Option<bool> {
     match sort {
         Sort::Reach => reach_agrees::<H>(n),
@@ -71,6 +71,7 @@ pub(crate) fn judge(heap: Global, line: &str) -> Result<Sort, Fault> {
     let kind = Kind::from_word(kind.as_bytes()).ok_or(Fault::Malformed)?;
     let numbers = read_numbers(heap, text)?;
     let n = numbers.as_slice();
+    // Each kind has a type of hulls of its own, and a table of functions would be no plainer than these arms.
     let found = match kind {
         Kind::Box => agrees::<BoxHull>(sort, n),
         Kind::Many => agrees::<ManyHull>(sort, n),

@@ -17,7 +17,8 @@ use std::marker::Model;
 // A job has at most so many bytes.
 pub const MOST_BYTES: usize = 65536;
 
-// What is left of a job, and how many words of a section are taken.
+// What is left of a job, and how many words of a section are taken. Clauses on the section and on the words taken say what becomes of
+// them from before to after, which no type can hold.
 #[derive(Drop)]
 pub struct Words<'a> {
     rest: &'a [u8],
