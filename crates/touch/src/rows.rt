@@ -60,11 +60,8 @@ pub(crate) fn read_row<R: Row<N>, const N: usize>(
     ensures { MatchResult result (λ r. AllNumbered input.old.left (R.Row.entries r) input.new.left) (λ e. NotRead N R.Row.InRange fault input.old.left input.old.section input.old.taken e) }
 {
     let numbers = input.numbers::<N>()?;
-    match R::make(numbers) {
-        Some(row) => Ok(row),
-        None => Err(Refusal {
-            fault,
-            blame: input.place(),
-        }),
-    }
+    R::make(numbers).ok_or(Refusal {
+        fault,
+        blame: input.place(),
+    })
 }

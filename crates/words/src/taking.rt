@@ -120,16 +120,14 @@ impl<'a> Words<'a> {
         ensures section { self.new.section ≡ self.old.section }
         ensures cases { MatchResult result (λ w. (self.old.left ≡ w.now ∷ self.new.left) × (self.new.taken ≡ self.old.taken + 1)) (λ e. (self.old.left ≡ []) × (e ≡ found WrongLength self.old.section (self.old.taken + 1))) }
     {
-        match self.take() {
-            Some(word) => Ok(word),
-            None => Err(Fault {
-                flaw: Flaw::WrongLength,
-                blame: Blame {
-                    section: self.section,
-                    word: self.taken + 1,
-                },
-            }),
-        }
+        let word = self.take();
+        word.ok_or(Fault {
+            flaw: Flaw::WrongLength,
+            blame: Blame {
+                section: self.section,
+                word: self.taken + 1,
+            },
+        })
     }
 
     // The word that opens a section is due.
@@ -157,10 +155,7 @@ impl<'a> Words<'a> {
         ensures reads { (of : Word → Option T) → ((w : Word) (r : Option T) → FnReturnsAt F.Fn worth w r → r ≡ of w) → Reads (due of self.old.section (self.old.taken + 1) self.old.left) result self.new.left }
     {
         let word = self.word()?;
-        match worth(word) {
-            Some(value) => Ok(value),
-            None => Err(self.flawed(Flaw::WrongWord)),
-        }
+        worth(word).ok_or(self.flawed(Flaw::WrongWord))
     }
 
     // A count is due.

@@ -12,12 +12,7 @@ returns-in_err-word-clause-reads g c =
     let p = err_from_is_err_and c.from_residual.result c.from_residual.ensures.1 in
     λ of right. due_missing of _ _ _ _ _ _ told.cases.0 (p.2 ∙ told.cases.1) p.1
 
-pub returns-in-Some-clause-reads : goal.returns-in-Some-clause-reads
-returns-in-Some-clause-reads g c =
-    let told = c.in_ok-word.ensures in
-    λ of right. due_told of _ _ _ _ _ _ _ _ told.cases.0 (right _ _ (says_at g.F.Fn c.in-Some.ensures refl)) refl refl
-
 pub returns-clause-reads : goal.returns-clause-reads
 returns-clause-reads g c =
     let told = c.in_ok-word.ensures in
-    λ of right. due_told of _ _ _ _ _ _ _ _ told.cases.0 (right _ _ (says_at g.F.Fn c.in-None.ensures refl)) (c.flawed.ensures ∙ (λ i. found WrongWord (told.section i) (told.cases.1 i))) refl
+    λ of right. due_told of _ _ _ _ _ _ _ _ told.cases.0 (right _ _ (says_at g.F.Fn c.worth.ensures refl)) (c.flawed.ensures ∙ (λ i. found WrongWord (told.section i) (told.cases.1 i))) c.ok_or.ensures.value
