@@ -2,7 +2,7 @@
 use Rattle.std.proofs.Common.{◌≡◌, ℕ, suc, ◌+◌, ◌*◌, ◌≤◌, min, Bool, true, false, cond, List, [], ◌∷◌, ◌++◌, length, take, drop, ℤ, Some, None, Option, Result, String, IfOk, string_bytes, sym, refl, ap, ◌∙◌, subst, subst₂, mul-le-mul_right, suc-mul, add-one, arith}
 use Rattle.std.specs.List.{flat_map}
 use Rattle.std.proofs.lemmas.Result.{IfOk-weaker}
-use Rattle.std.proofs.lemmas.List.{take-take, take-append-le, take_all, length-take, length-drop}
+use Rattle.std.proofs.lemmas.List.{take-take, take-append-le, take_all, length-take, length-drop, length-map}
 use Rattle.std.proofs.lemmas.List.Sums.{sum_by-cons}
 use Rattle.std.proofs.lemmas.Bool.{false≢true}
 use Rattle.hull.specs.declared.corner.Corner.{Corner}
@@ -20,9 +20,11 @@ use Rattle.walks.specs.Answers.{Answers, no_object, no_placement, no_place, AllH
 use Rattle.walks.specs.Answers as answers
 use Rattle.walks.specs.Runs.{stretch, Compared, Ran, Replayed}
 use Rattle.walks.specs.Runs as runs
+use Rattle.jobtext.specs.declared.entry.Entry.{Entry}
 use Rattle.jobtext.specs.declared.fault.Blame.{Blame}
 use Rattle.jobtext.specs.declared.fault.Fault.{Fault}
 use Rattle.jobtext.specs.Forms.{mark}
+use Rattle.jobtext.specs.Readings.{requests_of, blames_of}
 use Rattle.report.specs.Reports.{report_from, report_of, placement_line, pair_line}
 use Rattle.job.specs.Prints.{job_items, pair_places, compares, comparisons_in, Prints, ended, wrote, listed, no_write, no_list}
 
@@ -109,14 +111,15 @@ ran_all (runs.wrote s r) = ran_all r
 ran_all (runs.asked {c} {requests = rs} s r) = omega (arith, ran_all r, sum_by-cons (λ x. cond (compares x) 1 0) (Compare c) rs)
 
 -- the report on a replay of all requests, with places enough
-module _ {H E Z : Type 0} {begun : Corner → H} {grown : H → Corner → H} {reaches : H → Direction → ℤ} {faced : Type 0} {unrounded : List Corner → Direction → ℤ} (fault : Option Fault) {requests rs : List Request} {blames bs : List Blame} {xs ys : List Answer} {before lists : List (ℕ × ℕ)} {table : ℕ} (text : Result (String Z) E) where
-  pub replay_prints : Replayed begun grown reaches faced unrounded mark table rs xs ys pair_places before lists → IfOk text (λ s. string_bytes s ≡ report_of lists pair_places fault ys bs) → rs ≡ requests → bs ≡ blames → length blames ≡ length requests → length xs ≡ length rs → length ys ≡ length xs → length before ≡ comparisons_in rs * pair_places → table ≡ job_items
-      → IfOk text (λ s. Prints begun grown reaches faced unrounded fault 0 (opened mark job_items) requests blames (string_bytes s))
-  replay_prints r told er eb nb nx ny nl nt =
-      let m : min (length rs) (length xs) ≡ length rs = omega arith in
-      let a : take (min (length rs) (length xs)) rs ≡ requests = take_all _ rs (omega arith) ∙ er in
-      let b : take (min (length rs) (length xs)) ys ≡ ys = take_all _ ys (omega arith) in
-      let k = subst₂ (λ (rs : List Request) (zs : List Answer). Ran begun grown reaches faced unrounded pair_places before lists 0 (opened mark table) rs zs r.comparisons r.last) a b r.ran in
-      let n : r.comparisons ≡ comparisons_in rs = omega (arith, ran_all k, ap comparisons_in er) in
-      let p = prints begun grown reaches faced unrounded fault before lists blames (omega (arith, ap (λ (c : ℕ). c * pair_places) n)) nb k in
-      IfOk-weaker text _ _ (λ s e. subst₂ (λ (t : ℕ) (z : List ℕ). Prints begun grown reaches faced unrounded fault 0 (opened mark t) requests blames z) nt (sym (e ∙ ap (report_of lists pair_places fault ys) eb)) p) told
+module _ {H E Z : Type 0} {begun : Corner → H} {grown : H → Corner → H} {reaches : H → Direction → ℤ} {faced : Type 0} {unrounded : List Corner → Direction → ℤ} (fault : Option Fault) (entries : List Entry) {xs ys : List Answer} {before lists : List (ℕ × ℕ)} {table : ℕ} (text : Result (String Z) E) where
+  pub replay_prints : Replayed begun grown reaches faced unrounded mark table (requests_of entries) xs ys pair_places before lists → IfOk text (λ s. string_bytes s ≡ report_of lists pair_places fault ys (blames_of entries)) → length xs ≡ length entries → length ys ≡ length xs → length before ≡ comparisons_in (requests_of entries) * pair_places → table ≡ job_items
+      → IfOk text (λ s. Prints begun grown reaches faced unrounded fault 0 (opened mark job_items) (requests_of entries) (blames_of entries) (string_bytes s))
+  replay_prints r told nx ny nl nt =
+      let rs = requests_of entries in
+      let nr : length rs ≡ length entries = length-map entries (λ e. e.request) in
+      let nb : length (blames_of entries) ≡ length rs = length-map entries (λ e. e.blame) ∙ sym nr in
+      let a : take (min (length rs) (length xs)) rs ≡ rs = take_all _ rs (omega (arith, nr)) in
+      let b : take (min (length rs) (length xs)) ys ≡ ys = take_all _ ys (omega (arith, nr)) in
+      let k = subst₂ (λ (qs : List Request) (zs : List Answer). Ran begun grown reaches faced unrounded pair_places before lists 0 (opened mark table) qs zs r.comparisons r.last) a b r.ran in
+      let p = prints begun grown reaches faced unrounded fault before lists (blames_of entries) (omega (arith, ap (λ (c : ℕ). c * pair_places) (ran_all k))) nb k in
+      IfOk-weaker text _ _ (λ s e. subst₂ (λ (t : ℕ) (z : List ℕ). Prints begun grown reaches faced unrounded fault 0 (opened mark t) rs (blames_of entries) z) nt (sym e) p) told

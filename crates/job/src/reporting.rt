@@ -11,7 +11,7 @@ use script::read;
 use std::alloc::{AllocError, Global};
 
 // The report on the job with these bytes. It fails only for want of memory.
-#[tactic(auto, using(crate::proofs::Telling::as_many, crate::proofs::Telling::reports), unfolding(report::specs::Reports::report_from))]
+#[tactic(auto, using(crate::proofs::Telling::reports), unfolding(report::specs::Reports::report_from))]
 pub fn report(heap: Global, bytes: &[u8]) -> Result<String, AllocError>
     ensures { IfOk result (λ s. Reports bytes.now (string_bytes s)) }
 {
@@ -26,7 +26,7 @@ pub fn report(heap: Global, bytes: &[u8]) -> Result<String, AllocError>
                 pairs: &[],
                 places: 0,
             };
-            render(heap, &[], &[], script.fault, &lists)
+            render(heap, &[], &script.entries, script.fault, &lists)
         }
     }
 }

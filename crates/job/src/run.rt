@@ -1,15 +1,15 @@
 // Makes the requests of a job.
-ghost use Rattle.std.specs.Prelude.{◌≡◌, ◌*◌, length, IfOk, string_bytes};
+ghost use Rattle.std.specs.Prelude.{◌≡◌, ◌*◌, IfOk, string_bytes};
 ghost use Rattle.book.specs.Books.{opened};
 ghost use Rattle.jobtext.specs.Forms.{mark};
+ghost use Rattle.jobtext.specs.Readings.{requests_of, blames_of};
 ghost use Rattle.job.specs.Prints.{comparisons_in, job_items, pair_places, Prints};
 
 use book::{Answer, Item, Request};
 use hull::{Corner, Hull};
-use jobtext::Fault;
+use jobtext::{Entry, Fault};
 use register::{Place, replay_requests};
 use report::{Lists, render};
-use script::Entries;
 use std::alloc::{AllocError, Global};
 
 // The mark of a job's register.
@@ -22,12 +22,12 @@ const ITEMS: usize = 1024;
 const PAIRS: usize = 4096;
 
 // How many comparisons there are.
-fn count_comparisons(requests: &[Request]) -> usize
-    ensures { result ≡ comparisons_in requests.now }
+fn count_comparisons(entries: &[Entry]) -> usize
+    ensures { result ≡ comparisons_in (requests_of entries.now) }
 {
-    requests
+    entries
         .iter()
-        .filter(|request| matches!(request, Request::Compare(_)))
+        .filter(|entry| matches!(entry.request, Request::Compare(_)))
         .count()
 }
 
@@ -45,22 +45,20 @@ fn blank<H: Hull>() -> Place<H> {
 // Makes the requests in turn over hulls of one kind, and reports on the answers.
 pub(crate) fn run<H: Hull + Clone>(
     heap: Global,
-    entries: &Entries,
+    entries: &[Entry],
     fault: Option<Fault>,
 ) -> Result<String, AllocError>
-    requires { length entries.now.blames.items ≡ length entries.now.requests.items }
-    ensures { IfOk result (λ s. Prints H.begun H.grown H.reaches H.faced H.unrounded fault 0 (opened mark job_items) entries.now.requests.items entries.now.blames.items (string_bytes s)) }
+    ensures { IfOk result (λ s. Prints H.begun H.grown H.reaches H.faced H.unrounded fault 0 (opened mark job_items) (requests_of entries.now) (blames_of entries.now) (string_bytes s)) }
 {
-    let requests = entries.requests.as_slice();
     let mut table = vec![in heap; blank::<H>(); ITEMS]?;
-    let mut answers = vec![in heap; Answer::Started; requests.len()]?;
-    let mut lists = vec![in heap; [(0, 0); PAIRS]; count_comparisons(requests)]?;
+    let mut answers = vec![in heap; Answer::Started; entries.len()]?;
+    let mut lists = vec![in heap; [(0, 0); PAIRS]; count_comparisons(entries)]?;
     let answers = answers.as_mut_slice();
     let pairs = lists.as_flattened_mut();
-    replay_requests(MARK, &mut table, requests, answers, PAIRS, pairs);
+    replay_requests(MARK, &mut table, entries, answers, PAIRS, pairs);
     let lists = Lists {
         pairs,
         places: PAIRS,
     };
-    render(heap, answers, &entries.blames, fault, &lists)
+    render(heap, answers, entries, fault, &lists)
 }

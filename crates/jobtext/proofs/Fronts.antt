@@ -12,7 +12,8 @@ use Rattle.jobtext.specs.declared.section.Section.TheVariants as section
 use Rattle.jobtext.specs.Forms.{Form, facet, tie, placement, start, close}
 use Rattle.jobtext.specs.Fronts.{wrong_at, missing_at, lacking, CutAt, Begins}
 use Rattle.jobtext.specs.Numbers.{count_of, number_of}
-use Rattle.jobtext.specs.Readings.{Read, Entry, Stretch, Reading, found, due, follow, headed, numbers, still, before, asked, then, onward, resumed, row_due, rows, facets_of, ties_of, placements_of, finished, body_of, begun, reading_of}
+use Rattle.jobtext.specs.declared.entry.Entry.{Entry}
+use Rattle.jobtext.specs.Readings.{Read, Stretch, Reading, found, due, follow, headed, numbers, still, before, asked, then, onward, resumed, row_due, rows, facets_of, ties_of, placements_of, finished, body_of, begun, reading_of}
 use Rattle.jobtext.specs.Sections.{opens, kind_of}
 use Rattle.jobtext.specs.Words.{Word}
 

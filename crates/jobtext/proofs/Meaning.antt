@@ -12,7 +12,8 @@ use Rattle.jobtext.specs.declared.section.Section.TheVariants as section
 use Rattle.jobtext.specs.Forms.{Form, facet, tie, placement, start, close}
 use Rattle.jobtext.specs.Jobs.{Object, Job, Says, SaysRows, Table, Spells, asks, object_asks, row_blames, object_blames, blames, Meant}
 use Rattle.jobtext.specs.Numbers.{count_of, number_of}
-use Rattle.jobtext.specs.Readings.{Read, Entry, Stretch, Reading, requests_of, blames_of, due, follow, headed, numbers, before, asked, then, onward, rows, facets_of, ties_of, placements_of, finished, body_of, begun, reading_of}
+use Rattle.jobtext.specs.declared.entry.Entry.{Entry}
+use Rattle.jobtext.specs.Readings.{Read, Stretch, Reading, requests_of, blames_of, due, follow, headed, numbers, before, asked, then, onward, rows, facets_of, ties_of, placements_of, finished, body_of, begun, reading_of}
 use Rattle.jobtext.specs.Sections.{opens, opening, kind_of, word_of_kind}
 use Rattle.jobtext.specs.Words.{Word}
 use Rattle.jobtext.proofs.Rows.{asked_at, row_read}

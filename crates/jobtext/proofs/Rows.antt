@@ -4,7 +4,8 @@ use Rattle.book.specs.declared.call.Request.{Request}
 use Rattle.jobtext.specs.declared.fault.Fault.{Fault}
 use Rattle.jobtext.specs.declared.section.Section.{Section}
 use Rattle.jobtext.specs.Forms.{Form}
-use Rattle.jobtext.specs.Readings.{Read, Entry, Stretch, before, asked, then, follow, numbers, row_due, rows}
+use Rattle.jobtext.specs.declared.entry.Entry.{Entry}
+use Rattle.jobtext.specs.Readings.{Read, Stretch, before, asked, then, follow, numbers, row_due, rows}
 use Rattle.jobtext.specs.Words.{Word}
 
 -- the entry of a request at word k of the section

@@ -3,7 +3,8 @@ use Rattle.std.specs.Prelude.{◌≡◌, List, ◌∷◌, ◌++◌, Some}
 use Rattle.jobtext.specs.declared.fault.Blame.{Blame}
 use Rattle.jobtext.specs.declared.fault.Fault.{Fault}
 use Rattle.jobtext.specs.declared.fault.Flaw.TheVariants.{WrongWord, WrongLength}
-use Rattle.jobtext.specs.Readings.{Entry, Reading, reading_of}
+use Rattle.jobtext.specs.declared.entry.Entry.{Entry}
+use Rattle.jobtext.specs.Readings.{Reading, reading_of}
 use Rattle.jobtext.specs.Words.{Word}
 
 abbrev pub wrong_at : Blame → Fault

@@ -3,6 +3,7 @@ use Rattle.std.specs.Prelude.{◌≡◌, ℕ, zero, suc, ◌+◌, ◌*◌, cond,
 use Rattle.std.specs.Option.{option_map, ok_or}
 use Rattle.std.specs.Result.{result_err}
 use Rattle.book.specs.declared.call.Request.{Request}
+use Rattle.jobtext.specs.declared.entry.Entry.{Entry}
 use Rattle.jobtext.specs.declared.fault.Blame.{Blame}
 use Rattle.jobtext.specs.declared.fault.Fault.{Fault}
 use Rattle.jobtext.specs.declared.fault.Flaw.{Flaw}
@@ -48,14 +49,11 @@ numbers zero s k ws = Ok ([], ws)
 numbers (suc n) s k ws =
     follow (due number_of s (k + 1) ws) (λ z left. follow (numbers n s (k + 1) left) (λ zs left. Ok (z ∷ zs, left)))
 
--- a request, and the word that is blamed if it is refused
-pub record Entry : Type 0 where
-  pub request : Request
-  pub blame : Blame
-
+-- the requests
 abbrev pub requests_of : List Entry → List Request
 requests_of es = map (λ e. e.request) es
 
+-- the words that are blamed for them
 abbrev pub blames_of : List Entry → List Blame
 blames_of es = map (λ e. e.blame) es
 

@@ -1,5 +1,5 @@
 -- A report, answer by answer.
-use Rattle.std.proofs.Common.{◌≡◌, ℕ, ◌+◌, ◌*◌, ◌⊎◌, List, [], ◌∷◌, ◌++◌, take, drop, Option, refl, inl, inr, append_assoc, arith}
+use Rattle.std.proofs.Common.{◌≡◌, ℕ, ◌+◌, ◌*◌, ◌⊎◌, List, [], ◌∷◌, ◌++◌, map, take, drop, Option, refl, inl, inr, append_assoc, arith}
 use Rattle.std.specs.List.{flat_map}
 use Rattle.book.specs.declared.call.Answer.{Answer}
 use Rattle.book.specs.declared.call.Answer.TheVariants.{Listed}
@@ -17,10 +17,10 @@ module _ (lists : List (ℕ × ℕ)) (places : ℕ) (fault : Option Fault) where
   unfolding report_from
   listed k count tests rest b bs before after pairs first grown = rw grown (rw first (grouped before (placement_line k count tests) _ _))
 
-  -- no answer is left, or no blame
-  pub none_left : (k : ℕ) (answers : List Answer) (bs : List Blame) → (answers ≡ []) ⊎ (bs ≡ []) → report_from lists places fault k answers bs ≡ fault_line fault
+  -- no answer is left, or nothing that holds a blame
+  pub none_left : {B : Type 0} (blamed : B → Blame) (k : ℕ) (answers : List Answer) (entries : List B) → (answers ≡ []) ⊎ (entries ≡ []) → report_from lists places fault k answers (map blamed entries) ≡ fault_line fault
   unfolding report_from
-  none_left k [] bs none = refl
-  none_left k (a ∷ answers) [] none = refl
-  none_left k (a ∷ answers) (b ∷ bs) (inl none) = grind (arith, none)
-  none_left k (a ∷ answers) (b ∷ bs) (inr none) = grind (arith, none)
+  none_left blamed k [] entries none = refl
+  none_left blamed k (a ∷ answers) [] none = refl
+  none_left blamed k (a ∷ answers) (e ∷ entries) (inl none) = grind (arith, none)
+  none_left blamed k (a ∷ answers) (e ∷ entries) (inr none) = grind (arith, none)

@@ -1,12 +1,12 @@
 // A whole report.
-ghost use Rattle.std.specs.Prelude.{◌≡◌, ◌+◌, ◌*◌, ◌^◌, ◌<◌, take, drop, IfOk, string_bytes};
+ghost use Rattle.std.specs.Prelude.{◌≡◌, ◌+◌, ◌*◌, ◌^◌, ◌<◌, map, take, drop, IfOk, string_bytes};
 ghost use Rattle.report.specs.Reports.{report_of};
 ghost use Rattle.report.specs.Endings.{Ends};
 ghost use Rattle.report.specs.Turns.{Turned};
 
 use super::lines::{push_comparison, push_fault, push_refusal};
 use book::Answer;
-use jobtext::{Blame, Fault};
+use jobtext::{Blame, Blamed, Fault};
 use std::alloc::{AllocError, Global};
 
 // The lists of the comparisons, one after another, with so many places for each.
@@ -57,20 +57,20 @@ fn push_answer(
 
 // The report on a job whose requests were answered so. Each request has its blame, and this fault ends the text.
 #[tactic(auto, using(crate::proofs::Endings::ends))]
-pub fn render(
+pub fn render<B: Blamed>(
     heap: Global,
     answers: &[Answer],
-    blames: &[Blame],
+    entries: &[B],
     fault: Option<Fault>,
     lists: &Lists,
 ) -> Result<String, AllocError>
-    ensures renders { IfOk result (λ s. string_bytes s ≡ report_of lists.now.pairs.now lists.now.places fault answers.now blames.now) }
-    ensures ends { IfOk result (λ s. Ends lists.now.pairs.now lists.now.places fault answers.now blames.now (string_bytes s)) }
+    ensures renders { IfOk result (λ s. string_bytes s ≡ report_of lists.now.pairs.now lists.now.places fault answers.now (map B.blamed entries.now)) }
+    ensures ends { IfOk result (λ s. Ends lists.now.pairs.now lists.now.places fault answers.now (map B.blamed entries.now) (string_bytes s)) }
 {
     let mut text = String::new(heap);
     let mut index = 0;
-    for (answer, blame) in answers.iter().zip(blames) {
-        match push_answer(&mut text, index, *answer, *blame, lists)? {
+    for (answer, entry) in answers.iter().zip(entries) {
+        match push_answer(&mut text, index, *answer, entry.blame(), lists)? {
             Some(next) => index = next,
             None => return Ok(text),
         }

@@ -1,11 +1,9 @@
 // Reads the text of a job into the requests that it makes.
 #![tactic(auto)]
 
-mod entries;
 mod reader;
 mod rows;
 mod script;
 mod stop;
 
-pub use entries::Entries;
 pub use script::{Script, read};

@@ -4,17 +4,16 @@ ghost use Rattle.jobtext.specs.Readings.{reading_of, script_of};
 ghost use Rattle.jobtext.specs.Words.{job_limit};
 ghost use Rattle.script.specs.Scripts.{Tells, Follows};
 
-use super::entries::Entries;
 use super::reader::Reader;
-use jobtext::{Fault, Kind};
+use jobtext::{Entry, Fault, Kind};
 use std::alloc::{AllocError, Global};
 use words::Words;
 
-// What a job asks for: its kind, the requests in turn, and the fault that ends the reading.
+// What a job asks for: its kind, the requests in turn, each with the word that is blamed for it, and the fault that ends the reading.
 #[derive(Drop)]
 pub struct Script {
     pub kind: Option<Kind>,
-    pub entries: Entries,
+    pub entries: Vec<Entry>,
     pub fault: Option<Fault>,
 }
 
@@ -24,7 +23,7 @@ fn read_words(heap: Global, input: Words) -> Result<Script, AllocError>
 {
     let mut reader = Reader {
         input,
-        entries: Entries::new(heap),
+        entries: Vec::new(heap),
     };
     let (kind, fault) = match reader.input.kind() {
         Ok(kind) => match reader.body() {
@@ -49,7 +48,7 @@ pub fn read(heap: Global, bytes: &[u8]) -> Result<Script, AllocError>
         Ok(input) => read_words(heap, input),
         Err(fault) => Ok(Script {
             kind: None,
-            entries: Entries::new(heap),
+            entries: Vec::new(heap),
             fault: Some(fault),
         }),
     }

@@ -17,4 +17,4 @@ returns-in-Ok c =
 
 pub returns-in-Err-clause-tells : goal.returns-in-Err-clause-tells
 returns-in-Err-clause-tells c =
-    subst (λ (e : Fault). Tells (record { kind = None; entries = c.new-in-Err.result; fault = Some e }) (script_of c.args.bytes.now)) (sym c.in-Err.ensures.1) (tells_too_long _ _ c.new-in-Err.ensures c.in-Err.ensures.0)
+    subst (λ (e : Fault). Tells (record { kind = None; entries = c.new-in-Err.result; fault = Some e }) (script_of c.args.bytes.now)) (sym c.in-Err.ensures.1) (tells_too_long _ _ c.new-in-Err.ensures.items c.in-Err.ensures.0)
