@@ -3,7 +3,6 @@ use Rattle.std.proofs.Common.{◌≡◌, ℕ, List, [], ◌∷◌, ◌++◌, Ok,
 use mathlib.Core.Path.{transport}
 use Rattle.std.specs.declared.alloc.AllocError.{AllocError}
 use Rattle.book.specs.declared.call.Request.{Request}
-use Rattle.jobtext.specs.declared.fault.Blame.{Blame}
 use Rattle.jobtext.specs.declared.fault.Fault.{Fault}
 use Rattle.jobtext.specs.declared.section.Section.{Section}
 use Rattle.jobtext.specs.declared.entry.Entry.{Entry}
@@ -49,9 +48,8 @@ unfolding asked
 asked_ran a b c q s k t r left g ran = before_ran a b c (asked_at s k q ∷ []) t r left g ran
 
 -- a request was put at the word that was taken last
-pub grown_at : (a b : List Entry) (q : Request) (l : Blame) (s s' : Section) (k k' : ℕ) → l ≡ record { section = s'; word = k' } → s' ≡ s → k' ≡ k → Grown a b (record { request = q; blame = l } ∷ []) → Grown a b (asked_at s k q ∷ [])
-grown_at a b q l s s' k k' at same equal g =
-    subst (λ (x : Blame). Grown a b (record { request = q; blame = x } ∷ [])) (at ∙ (λ i. record { section = same i; word = equal i })) g
+pub grown_at : (a b : List Entry) (q : Request) (s s' : Section) (k k' : ℕ) → s' ≡ s → k' ≡ k → Grown a b (asked_at s' k' q ∷ []) → Grown a b (asked_at s k q ∷ [])
+grown_at a b q s s' k k' same equal g = g ∙ (λ i. a ++ (asked_at (same i) (equal i) q ∷ []))
 
 -- rows after the word that was taken last
 pub rows_at : (f : Form) (n : ℕ) (ws ws' : List Word) (a b : List Entry) (r : Result (Unit {0}) Stop) (left : List Word) (s s' : Section) (k k' : ℕ) → s' ≡ s → k' ≡ k → ws' ≡ ws → Ran (rows f n s' k' ws') a b r left → Ran (rows f n s k ws) a b r left

@@ -1,4 +1,4 @@
-use Rattle.std.proofs.Common.{refl, ap, ◌∙◌}
+use Rattle.std.proofs.Common.{ap, ◌∙◌}
 use Rattle.std.proofs.lemmas.Result.{err_from_is_err_and}
 use Rattle.jobtext.specs.Forms.{facet}
 use Rattle.jobtext.specs.Readings.{facets_of}
@@ -16,6 +16,6 @@ unfolding facets_of
 returns c =
     let told = c.in_ok-count.ensures in
     let put = c.in_ok-put.ensures in
-    let started = grown_at _ _ _ _ _ _ _ _ refl told.section told.taken put.grown in
+    let started = grown_at _ _ _ _ _ _ _ told.section told.taken put.grown in
     let entered = rows_at facet _ _ _ _ _ _ _ _ _ _ _ (ap (λ p. p.section) put.input ∙ told.section) (ap (λ p. p.taken) put.input ∙ told.taken) (ap (λ p. p.left) put.input) c.rows.ensures.ran in
     then_ran _ _ _ _ _ _ _ _ told.reads (asked_ran _ _ _ _ _ _ _ _ _ started entered)

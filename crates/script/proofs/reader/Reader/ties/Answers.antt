@@ -25,5 +25,5 @@ returns c =
     let told = c.in_ok-count.ensures in
     let rows = c.in_ok-rows.ensures in
     let entered = rows_at tie _ _ _ _ _ _ _ _ _ _ _ told.section told.taken refl rows.ran in
-    let closed = grown_at _ _ _ _ _ _ _ _ refl (rows.section ∙ told.section) (rows.taken ∙ ap (λ k. k + c.in_ok-count.count * 2) told.taken) c.in_ok-put.ensures.grown in
+    let closed = grown_at _ _ _ _ _ _ _ (rows.section ∙ told.section) (rows.taken ∙ ap (λ k. k + c.in_ok-count.count * 2) told.taken) c.in_ok-put.ensures.grown in
     then_ran _ _ _ _ _ _ _ _ told.reads (onward_ran _ _ _ _ _ _ _ _ entered (asked_ran _ _ _ _ _ _ _ _ _ closed (record { outcome = (grown_none _, ap (λ p. Ok p.left) (sym c.in_ok-put.ensures.input)) })))
