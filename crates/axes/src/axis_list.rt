@@ -67,7 +67,7 @@ fn turn(p: &Placement, a: &FixedAxis) -> Axis
     }
 }
 
-// An axis of the placement by its place in the list.
+// An axis of the placement by its place in the list, as the rules number them.
 fn axis_of(p: &Placement, i: usize) -> Axis
     requires { i < axis_count }
     ensures { result ≡ axis_at p.now i }

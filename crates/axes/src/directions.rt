@@ -48,7 +48,7 @@ fn standing(l: &Axis) -> Direction
     direction(W * l.x as i64, W * l.y as i64, W * l.z as i64)
 }
 
-// The direction the other way.
+// The direction the other way. No Neg, which would have to stand in `hull` and be everybody's, for this one use.
 fn reverse(u: &Direction) -> Direction
     ensures { result ≡ opposite u.now }
 {

@@ -83,6 +83,7 @@ fn run(rt: &HostRuntime) -> anyhow::Result<()> {
     let order = read_order(rt)?;
     let text = fs::read_to_string(rt, order.path.as_str())?;
     let job = Job::read(rt.alloc(), text.as_str())?;
+    // Each kind has a type of hulls of its own, so there is no list of them to go over.
     run_kind::<BoxHull>(rt, &job, order.is_timed)?;
     run_kind::<ManyHull>(rt, &job, order.is_timed)?;
     run_kind::<BallHull>(rt, &job, order.is_timed)?;

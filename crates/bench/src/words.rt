@@ -1,4 +1,4 @@
-// The words of a file.
+// The words of a file. Not those of `words`, which hold a job to its limits.
 use super::stop::Stop;
 use std::str::SplitWhitespace;
 

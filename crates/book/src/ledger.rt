@@ -14,7 +14,8 @@ pub struct Ledger {
     // the stretch: its first place, and the place after its last
     pub first: usize,
     pub end: usize,
-    // the closed objects, the first of 64 spans: fixed memory, since a register allocates nothing
+    // the closed objects, the first of 64 spans: fixed memory, since a register allocates nothing, and an array, so that a ledger can be
+    // copied
     pub closed: usize,
     pub spans: [Span; 64],
     // the draft: whether one is open, its first place, the place after its last, and how many of its items no tie has; a flag and no

@@ -74,6 +74,7 @@ pub(crate) fn raise<const N: usize>(values: &mut [i16; N], p: &Corner)
     requires { N ≤ 26 }
     ensures { values.new ≡ raised values.old p.now }
 {
+    // A face goes by its place in the list, as the rule of a hull has it.
     for (i, value) in values.iter_mut().enumerate() {
         *value = (*value).max(support_of(i, p));
     }

@@ -6,7 +6,7 @@ use hull::{Corner, Hull};
 use register::{Place, replay};
 use std::alloc::{AllocError, Global};
 
-// Two lists of one length, since a replay takes the calls as a slice of their own.
+// Two lists of one length, since `replay`, which is held to them here, takes the calls as a slice of their own.
 #[derive(Drop)]
 pub struct History {
     mark: u16,

@@ -1,4 +1,4 @@
-// Numbers from the words of a line.
+// Numbers from the words of a line. `replays` has the same few: a library of both would have to promise what a number of these lines is.
 use std::str::{FromStr, Split};
 
 // The words that are still to be read of a line, or of a part of one.

@@ -38,6 +38,7 @@ pub fn div_up(z: i128, unit: u32) -> i128
     if unit == 0 {
         return 0;
     }
+    // By / and %, as -z does not fit where z is the least number.
     let quotient = z / unit as i128;
     let rest = z % unit as i128;
     if rest > 0 { quotient + 1 } else { quotient }

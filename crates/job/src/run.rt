@@ -10,10 +10,8 @@ use hull::{Corner, Hull};
 use jobtext::{Entry, Fault};
 use register::{Place, replay_requests};
 use report::{Lists, render};
+use script::MARK;
 use std::alloc::{AllocError, Global};
-
-// The mark of a job's register.
-const MARK: u16 = 0;
 
 // A job has so many items.
 const ITEMS: usize = 1024;
@@ -31,7 +29,7 @@ fn count_comparisons(entries: &[Entry]) -> usize
         .count()
 }
 
-// A place that nothing was entered into.
+// A place that nothing was entered into. A library that makes one for all programs would have to promise what it holds.
 fn blank<H: Hull>() -> Place<H> {
     let corner = Corner::new(0, 0, 0).unwrap();
     Place {

@@ -2,6 +2,8 @@
 ghost use Rattle.std.specs.Prelude.{◌≡◌, ◌^◌, ◌<◌, ◌≤◌, MatchOption, unsigned_abs};
 ghost use Rattle.hull.specs.Units.{Within};
 
+use hull::within;
+
 // Three numbers, none beyond a limit in size. Their width is no parameter, as an invariant can speak of numbers and not of a type
 // parameter.
 #[derive(Clone, Copy)]
@@ -20,8 +22,7 @@ impl<const LIMIT: u32> Triple<LIMIT> {
         requires { LIMIT < 2 ^ 31 }
         ensures { MatchOption result (Within LIMIT x y z → ⊥) (λ w. (w.x ≡ x) × (w.y ≡ y) × (w.z ≡ z)) }
     {
-        let limit = LIMIT as u64;
-        if x.unsigned_abs() <= limit && y.unsigned_abs() <= limit && z.unsigned_abs() <= limit {
+        if within(LIMIT as u64, x, y, z) {
             Some(Triple {
                 x: x as i32,
                 y: y as i32,

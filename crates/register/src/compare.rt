@@ -27,7 +27,7 @@ impl<'t, H: Hull> Register<'t, H> {
     }
 
     // Lists the facet pairs of two objects that no axis parts under the placement, and answers how many pairs and how many tests there
-    // were.
+    // were. The numbers of a comparison come one by one, as those of every other call do.
     pub fn compare(
         &self,
         moved: i64,

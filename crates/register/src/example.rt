@@ -18,6 +18,7 @@ pub(crate) fn enter_one<H: Hull>(
 {
     let draft = register.start()?;
     let (draft, answer) = draft.facet(register, numbers);
+    // A match on either answer, as the draft has to be spent whatever they are.
     match answer {
         Ok(_) => draft.close(register).map_err(Unclosed::refusal),
         Err(why) => match draft.drop(register) {

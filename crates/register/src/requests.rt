@@ -48,7 +48,8 @@ fn compare_at<H: Hull>(
 // Opens a register over the table and makes what is asked in turn, as much as there are places for answers. Comparison k lists its pairs in
 // the k-th stretch of so many places.
 //
-// The number of places and the list stay two arguments: a struct would be built at each call and taken apart at once.
+// The number of places and the list stay two arguments: a struct that borrows the list to write would be built at each call and taken
+// apart at once.
 pub fn replay_requests<H: Hull, R: Asked>(
     mark: u16,
     table: &mut [Place<H>],

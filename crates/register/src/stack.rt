@@ -1,4 +1,5 @@
-// A list of what waits, one text for single items and for pairs of items. Its memory is fixed, since nothing is allocated in a walk.
+// A list of what waits, one text for single items and for pairs of items, over lent places: a form that was asked for
+// (docs/DECISIONS.md), in memory that is fixed, since nothing is allocated in a walk.
 ghost use Rattle.std.specs.Prelude.{◌≡◌, ℕ, ◌+◌, ◌<◌, ◌≤◌, List, [], ◌∷◌, ◌++◌, length, take, MatchOption};
 
 // Over lent places: the last one in is the first one out.

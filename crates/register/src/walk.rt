@@ -77,7 +77,7 @@ pub(crate) fn walk<H: Hull>(
         if push_parts(&mut stack, i, j, left.item, right.item) {
             continue;
         }
-        // By its number: through get_mut or the items of iter_mut the proof does not learn what the lent list then holds.
+        // By its number: through get_mut, or an iter_mut that is kept from pair to pair, the proof does not learn what the list then holds.
         if count >= pairs.len() {
             return Err(Refusal::ListFull);
         }

@@ -4,7 +4,7 @@ ghost use Rattle.std.specs.Prelude.{◌≡◌, ℕ, ◌-◌, ◌^◌, List, ◌+
 use super::line::{Due, Opening};
 use super::tally::{Finding, Tally};
 use ball::BallHull;
-use book::{Answer, Item, Request};
+use book::{Answer, Asked, Item, Request};
 use faced::{BoxHull, ManyHull};
 use hull::{Corner, Hull};
 use jobtext::Kind;
@@ -24,13 +24,27 @@ struct Outcome {
     lists: Vec<(u32, u32)>,
 }
 
-// The requests, and beside them, since a replay takes them as a slice of their own, the line of each and what is due to it.
+// A request, the number of its line, and what is due to it.
+#[derive(Drop)]
+struct Expected {
+    line: u64,
+    request: Request,
+    due: Due,
+}
+
+impl Asked for Expected {
+    ghost asked = { λ expected. expected.request };
+
+    fn request(&self) -> Request {
+        self.request
+    }
+}
+
 #[derive(Drop)]
 pub struct History {
     line: u64,
     opening: Opening,
-    requests: Vec<Request>,
-    dues: Vec<(u64, Due)>,
+    expected: Vec<Expected>,
 }
 
 // A place that holds anything. A library that makes one for all programs would have to promise what it holds.
@@ -64,27 +78,25 @@ impl History {
         History {
             line,
             opening,
-            requests: Vec::new(heap),
-            dues: Vec::new(heap),
+            expected: Vec::new(heap),
         }
     }
 
     // One more call, with what is due to it.
     pub(crate) fn add(&mut self, line: u64, request: Request, due: Due) -> Result<(), AllocError> {
-        self.requests.push(request)?;
-        self.dues.push((line, due))?;
+        self.expected.push(Expected { line, request, due })?;
         Ok(())
     }
 
     // Replays the calls with hulls of one kind, over a table that holds anything.
     fn replayed_with<H: Hull + Clone>(&self, heap: Global) -> Result<Outcome, AllocError> {
         let mut table = vec![in heap; some_place::<H>(); self.opening.places]?;
-        let mut answers = vec![in heap; UNANSWERED; self.requests.len()]?;
+        let mut answers = vec![in heap; UNANSWERED; self.expected.len()]?;
         let mut lists = vec![in heap; UNTOUCHED; self.opening.lent]?;
         replay_requests(
             self.opening.mark,
             table.as_mut_slice(),
-            self.requests.as_slice(),
+            self.expected.as_slice(),
             answers.as_mut_slice(),
             self.opening.stretch,
             lists.as_mut_slice(),
@@ -104,8 +116,9 @@ impl History {
 
     // Notes of each answer whether it is the one that is due.
     fn judge_answers(&self, answers: &[Answer], tally: &mut Tally) -> Result<(), AllocError> {
-        for ((line, due), answer) in self.dues.iter().zip(answers.iter()) {
-            tally.note(Finding::Answer(*line, *answer), due.answer == Some(*answer))?;
+        for (expected, answer) in self.expected.iter().zip(answers) {
+            let agrees = expected.due.answer == Some(*answer);
+            tally.note(Finding::Answer(expected.line, *answer), agrees)?;
         }
         Ok(())
     }
@@ -113,10 +126,10 @@ impl History {
     // Notes of the stretch of each comparison, and then of the places behind them all, whether they hold what they should.
     fn judge_lists(&self, lists: &[(u32, u32)], tally: &mut Tally) -> Result<(), AllocError> {
         let mut left = lists;
-        for (line, due) in self.dues.iter() {
-            if let Some(pairs) = &due.pairs {
+        for expected in self.expected.iter() {
+            if let Some(pairs) = &expected.due.pairs {
                 let (list, behind) = left.split_at(self.opening.stretch.min(left.len()));
-                tally.note(Finding::List(*line), holds(list, pairs.as_slice()))?;
+                tally.note(Finding::List(expected.line), holds(list, pairs.as_slice()))?;
                 left = behind;
             }
         }

@@ -6,7 +6,7 @@ ghost use Rattle.report.specs.Reports.{refusal_line, fault_line, placement_line,
 use jobtext::{Blame, Fault};
 use std::alloc::AllocError;
 
-// The last line of a report on a job with a fault.
+// The last line of a report on a job with a fault. The number is that of a refusal or of a flaw, which have nothing else in common.
 pub(crate) fn push_refusal(text: &mut String, number: u8, blame: Blame) -> Result<(), AllocError>
     ensures { OnOk result (string_bytes text.new ≡ string_bytes text.old ++ refusal_line number blame) }
 {

@@ -6,4 +6,5 @@ mod rows;
 mod script;
 mod stop;
 
+pub use rows::MARK;
 pub use script::{Script, read};

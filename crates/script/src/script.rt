@@ -9,6 +9,8 @@ use jobtext::{Entry, Fault, Kind};
 use std::alloc::{AllocError, Global};
 use words::Words;
 
+// No Result: a fault behind the kind comes with all that was read before it.
+//
 // What a job asks for: its kind, the requests in turn, each with the word that is blamed for it, and the fault that ends the reading.
 #[derive(Drop)]
 pub struct Script {

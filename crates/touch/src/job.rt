@@ -1,5 +1,5 @@
 // Reads a job and compares its objects.
-ghost use Rattle.std.specs.Prelude.{◌≡◌, ◌<◌, length, IfOk, Err, string_bytes, MatchResult};
+ghost use Rattle.std.specs.Prelude.{◌≡◌, ◌<◌, ◌++◌, length, IfOk, Err, string_bytes, MatchResult, OnOk};
 ghost use Rattle.book.specs.declared.item.Facet.{Facet as FacetOf};
 ghost use Rattle.book.specs.declared.refusal.Refusal.TheVariants.{OutOfRange};
 ghost use Rattle.jobtext.specs.Due.{AllNumbered};
@@ -53,55 +53,54 @@ fn read_object<H: Hull>(input: &mut Words, facets: Section, ties: Section) -> Re
 }
 
 // The lines of a placement.
-fn placement_lines(heap: Global, index: u64, is_parted: bool) -> Result<String, AllocError>
-    ensures { IfOk result (λ s. string_bytes s ≡ lines_of_placement index is_parted) }
+fn push_placement(report: &mut String, index: u64, is_parted: bool) -> Result<(), AllocError>
+    ensures { OnOk result (string_bytes report.new ≡ string_bytes report.old ++ lines_of_placement index is_parted) }
 {
     if is_parted {
-        format!(in heap; "placement {index}: 0 pairs, 1 tests\n")
+        writeln!(report, "placement {index}: 0 pairs, 1 tests")
     } else {
-        format!(in heap; "placement {index}: 1 pairs, 1 tests\n0 0\n")
+        writeln!(report, "placement {index}: 1 pairs, 1 tests\n0 0")
     }
 }
 
 // Reads the objects and compares them at each placement.
-fn compare<H: Hull>(heap: Global, input: &mut Words, report: &mut String) -> Result<(), Stop> {
+fn compare<H: Hull>(input: &mut Words, report: &mut String) -> Result<(), Stop> {
     let moved: H = read_object(input, Section::Facets, Section::Ties)?;
     let standing: H = read_object(input, Section::Facets2, Section::Ties2)?;
     let count = input.count(Section::Placements)?;
     for index in 0..count {
         let fault = Fault::Call(book::Refusal::PlacementOutOfRange);
         let axes = Axes::new(read_row::<Placement, 12>(input, fault)?);
-        let lines = placement_lines(heap, index, parted(&axes, &moved, &standing))?;
-        report.push_str(lines.as_str())?;
+        push_placement(report, index, parted(&axes, &moved, &standing))?;
     }
     input.end()?;
     Ok(())
 }
 
 // Reads a job and reports as far as it goes.
-fn follow(heap: Global, job: &[u8], report: &mut String) -> Result<(), Stop>
+fn follow(job: &[u8], report: &mut String) -> Result<(), Stop>
     ensures stops { job_limit < length job.now → result ≡ Err too_long }
     ensures same { job_limit < length job.now → string_bytes report.new ≡ string_bytes report.old }
 {
     let mut input = Words::new(job)?;
     // Each kind has a type of hulls of its own, and a table of functions would be no plainer than these arms.
     match input.kind()? {
-        Kind::Box => compare::<BoxHull>(heap, &mut input, report),
-        Kind::Many => compare::<ManyHull>(heap, &mut input, report),
-        Kind::Ball => compare::<BallHull>(heap, &mut input, report),
+        Kind::Box => compare::<BoxHull>(&mut input, report),
+        Kind::Many => compare::<ManyHull>(&mut input, report),
+        Kind::Ball => compare::<BallHull>(&mut input, report),
     }
 }
 
 // The last line of a report that ends before the job does.
-fn last_line(heap: Global, stop: Stop) -> Result<String, AllocError>
-    ensures { IfOk result (λ s. string_bytes s ≡ stop_line stop) }
+fn push_stop(report: &mut String, stop: Stop) -> Result<(), AllocError>
+    ensures { OnOk result (string_bytes report.new ≡ string_bytes report.old ++ stop_line stop) }
 {
     match stop {
-        Stop::Refused(refusal) => format!(in heap; "{refusal}\n"),
+        Stop::Refused(refusal) => writeln!(report, "{refusal}"),
         Stop::LargerObject => {
-            String::from_str(
-                heap,
-                "this version compares single facets without ties only\n",
+            writeln!(
+                report,
+                "this version compares single facets without ties only"
             )
         }
         Stop::OutOfMemory(error) => Err(error),
@@ -113,8 +112,8 @@ pub(crate) fn answer(heap: Global, job: &[u8]) -> Result<String, AllocError>
     ensures { job_limit < length job.now → IfOk result (λ s. string_bytes s ≡ stop_line too_long) }
 {
     let mut report = String::new(heap);
-    if let Err(stop) = follow(heap, job, &mut report) {
-        report.push_str(last_line(heap, stop)?.as_str())?;
+    if let Err(stop) = follow(job, &mut report) {
+        push_stop(&mut report, stop)?;
     }
     Ok(report)
 }

@@ -24,7 +24,8 @@ impl Fault {
     }
 }
 
-// A fault, and the word of a section at which it was found.
+// A fault, and the word of a section at which it was found. `report` writes its line too, from a number: a type of both would be made
+// only to be printed.
 #[derive(Clone, Copy)]
 pub struct Refusal {
     pub fault: Fault,

@@ -14,6 +14,7 @@ pub(crate) fn read_count(word: &[u8]) -> Option<u64>
     if word.is_empty() || word.len() > MOST_DIGITS {
         return None;
     }
+    // By hand, as parse takes a plus and more digits.
     let mut total: u64 = 0;
     for byte in word {
         if !byte.is_ascii_digit() {
