@@ -20,8 +20,7 @@ fn ball_reach() -> Option<i64>
 // Whether the code gives what the cases say.
 #[tactic(auto, using(crate::proofs::WorkedOut::worked, crate::proofs::WorkedOut::lifts))]
 pub fn worked_cases() -> bool
-    ensures worked { Worked }
-    ensures lifts { Lifts }
+    ensures worked { Worked × Lifts }
     ensures run { result ≡ true }
 {
     ball_reach() == Some(20480)
