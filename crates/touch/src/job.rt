@@ -1,9 +1,10 @@
 // Reads a job and compares its objects.
 ghost use Rattle.std.specs.Prelude.{◌≡◌, ◌<◌, ◌++◌, length, IfOk, Err, string_bytes, MatchResult, OnOk};
 ghost use Rattle.book.specs.declared.item.Facet.{Facet as FacetOf};
-ghost use Rattle.book.specs.declared.refusal.Refusal.TheVariants.{OutOfRange};
+ghost use Rattle.book.specs.declared.refusal.Refusal.TheVariants.{OutOfRange, PlacementOutOfRange};
 ghost use Rattle.jobtext.specs.Due.{AllNumbered};
 ghost use Rattle.jobtext.specs.Words.{job_limit};
+ghost use Rattle.placement.specs.Twelve.{InRange as PlacementInRange, entries as placement_entries};
 ghost use Rattle.touch.specs.declared.refusal.Fault.TheVariants.{Call};
 ghost use Rattle.touch.specs.Due.{NotRead};
 ghost use Rattle.touch.specs.Facets.{InRange, corners, entries};
@@ -52,6 +53,13 @@ fn read_object<H: Hull>(input: &mut Words, facets: Section, ties: Section) -> Re
     Ok(hull)
 }
 
+// The placement that is due.
+fn read_placement(input: &mut Words) -> Result<Placement, Refusal>
+    ensures { MatchResult result (λ p. AllNumbered input.old.left (placement_entries p) input.new.left) (λ e. NotRead 12 PlacementInRange (Call PlacementOutOfRange) input.old.left input.old.section input.old.taken e) }
+{
+    read_row::<Placement, 12>(input, Fault::Call(book::Refusal::PlacementOutOfRange))
+}
+
 // The lines of a placement.
 fn push_placement(report: &mut String, index: u64, is_parted: bool) -> Result<(), AllocError>
     ensures { OnOk result (string_bytes report.new ≡ string_bytes report.old ++ lines_of_placement index is_parted) }
@@ -69,8 +77,7 @@ fn compare<H: Hull>(input: &mut Words, report: &mut String) -> Result<(), Stop> 
     let standing: H = read_object(input, Section::Facets2, Section::Ties2)?;
     let count = input.count(Section::Placements)?;
     for index in 0..count {
-        let fault = Fault::Call(book::Refusal::PlacementOutOfRange);
-        let axes = Axes::new(read_row::<Placement, 12>(input, fault)?);
+        let axes = Axes::new(read_placement(input)?);
         push_placement(report, index, parted(&axes, &moved, &standing))?;
     }
     input.end()?;
