@@ -3,12 +3,11 @@ use Rattle.std.proofs.Common.{◌≡◌, ℕ, ◌<◌, List, [], ◌∷◌, map,
 use lib.IntN.{+ℤ_idr, +ℤ_assoc}
 use Rattle.std.specs.List.{AllByRecursion}
 use Rattle.std.proofs.ByRecursion.{All-map, All-weaker}
-use Rattle.hull.specs.declared.direction.Direction.{Direction}
 use Rattle.hull.specs.declared.face.FaceWeight.{FaceWeight}
 use Rattle.hull.specs.declared.face.Weight.{Weight}
 use Rattle.hull.specs.Weights.{divided}
 use Rattle.support.specs.Supports.{share, support, reach_on}
-use Rattle.support.proofs.FacedLaws.{Listed, Decomposes}
+use Rattle.support.proofs.FacedLaws.{Listed}
 use Rattle.faced.specs.Terms.{counted, term, terms}
 
 pub terms_three : (values : List ℤ) (ws : List FaceWeight) (d : FaceWeight) → length ws ≡ 3 → term values (get_or ws 0 d) +ℤ term values (get_or ws 1 d) +ℤ term values (get_or ws 2 d) ≡ terms values ws
@@ -31,5 +30,5 @@ terms_reach values [] = refl
 terms_reach values (w ∷ ws) = ap₂ ◌+ℤ◌ (counted_divided w (support values w.on)) (terms_reach values ws)
 
 -- the faces of a direction's weights are among those of the hull
-pub faces_within : (u : Direction) (n : ℕ) (ws : List Weight) → Decomposes u n ws → AllByRecursion (λ (w : FaceWeight). w.face < n) (map divided ws)
-faces_within u n ws d = All-map (λ (w : FaceWeight). w.face < n) divided ws (All-weaker (λ (w : Weight). Listed n w.on) (λ (w : Weight). (divided w).face < n) (λ w l. l.within) ws d.listed)
+pub faces_within : (n : ℕ) (ws : List Weight) → AllByRecursion (λ (w : Weight). Listed n w.on) ws → AllByRecursion (λ (w : FaceWeight). w.face < n) (map divided ws)
+faces_within n ws h = All-map (λ (w : FaceWeight). w.face < n) divided ws (All-weaker (λ (w : Weight). Listed n w.on) (λ (w : Weight). (divided w).face < n) (λ w l. l.within) ws h)

@@ -3,7 +3,7 @@ ghost use Rattle.std.specs.Prelude.{◌≡◌};
 ghost use Rattle.support.specs.Exchange.{InAnyOrderAs};
 ghost use Rattle.support.proofs.Tops.{supports_one, supports_more};
 ghost use Rattle.support.proofs.FacedLaws as laws;
-ghost use Rattle.faced.specs.Hulls.{begun_on, grown_on, reach_by, unrounded_by, FitsOn};
+ghost use Rattle.faced.specs.Hulls.{begun_on, grown_on, reach_by, unrounded_by};
 
 use super::reach::reach_along;
 use super::supports::raise;
@@ -30,21 +30,21 @@ where
 
     ghost reaches = { reach_by N ⟦<Self as Weighted<N>>⟧.weights };
 
-    ghost fits = { FitsOn N };
+    ghost fits = { ⟦<Self as Weighted<N>>⟧.fits };
 
     ghost faced = { Unit {0} };
 
     ghost unrounded = { unrounded_by ⟦<Self as Weighted<N>>⟧.weights };
 
-    ghost one = { λ p. supports_one N p };
+    ghost one = { λ p. (⟦<Self as Weighted<N>>⟧.supported (begun_on N p) _).1 (supports_one N p) };
 
-    ghost another = { λ h c p f. supports_more N h.supports c p f };
+    ghost another = { λ h c p f. (⟦<Self as Weighted<N>>⟧.supported (grown_on N h p) _).1 (supports_more N h.supports c p ((⟦<Self as Weighted<N>>⟧.supported h c).0 f)) };
 
-    ghost covers = { λ h c u f. laws.covers ⟦<Self as Weighted<N>>⟧.weights ⟦<Self as Weighted<N>>⟧.decomposes h.supports c u f };
+    ghost covers = { λ h c u f. laws.covers u N (⟦<Self as Weighted<N>>⟧.weights u) (⟦<Self as Weighted<N>>⟧.decomposes u) h.supports c ((⟦<Self as Weighted<N>>⟧.supported h c).0 f) };
 
-    ghost tight = { λ h c u s f d. laws.tight ⟦<Self as Weighted<N>>⟧.weights ⟦<Self as Weighted<N>>⟧.decomposes h.supports c u s f d };
+    ghost tight = { λ h c u s f d. laws.tight u N (⟦<Self as Weighted<N>>⟧.weights u) (⟦<Self as Weighted<N>>⟧.decomposes u) h.supports c s ((⟦<Self as Weighted<N>>⟧.supported h c).0 f) d };
 
-    ghost rounds = { λ h c u t f. laws.rounds ⟦<Self as Weighted<N>>⟧.weights ⟦<Self as Weighted<N>>⟧.decomposes h.supports c u f };
+    ghost rounds = { λ h c u t f. laws.rounds u N (⟦<Self as Weighted<N>>⟧.weights u) (⟦<Self as Weighted<N>>⟧.decomposes u) h.supports c ((⟦<Self as Weighted<N>>⟧.supported h c).0 f) };
 
     fn first(p: Corner) -> FacedHull<N> {
         let mut supports = [i16::MIN; N];

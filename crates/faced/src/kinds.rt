@@ -3,7 +3,7 @@ ghost use Rattle.std.proofs.Common.{lit≤};
 ghost use Rattle.hull.specs.Weights.{stacked};
 ghost use Rattle.support.proofs.Decompositions.{box_decomposes, many_decomposes};
 ghost use Rattle.support.proofs.Exchange.{box_in_any_order, many_in_any_order};
-ghost use Rattle.faced.specs.Hulls.{on_box, on_many};
+ghost use Rattle.faced.specs.Hulls.{on_box, on_many, BoxFits, ManyFits};
 
 use super::hulls::FacedHull;
 use super::weighted::Weighted;
@@ -20,6 +20,10 @@ impl Weighted<6> for BoxHull {
     ghost weights = { on_box };
 
     ghost decomposes = { box_decomposes };
+
+    ghost fits = { BoxFits };
+
+    ghost supported = { λ h c. (λ f. f, λ f. f) };
 
     ghost arranged = { λ ws. ws };
 
@@ -41,6 +45,10 @@ impl Weighted<26> for ManyHull {
     ghost weights = { on_many };
 
     ghost decomposes = { many_decomposes };
+
+    ghost fits = { ManyFits };
+
+    ghost supported = { λ h c. (λ f. f, λ f. f) };
 
     ghost arranged = { stacked };
 

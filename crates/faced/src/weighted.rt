@@ -1,11 +1,14 @@
 // What tells one kind of hull with faces from another.
-ghost use Rattle.std.specs.Prelude.{◌≡◌, ◌≤◌, map, List, ℤ};
+ghost use Rattle.std.specs.Prelude.{◌≡◌, ◌≤◌, ◌↔◌, map, List, ℤ};
+ghost use Rattle.hull.specs.declared.corner.Corner.{Corner};
 ghost use Rattle.hull.specs.declared.direction.Direction.{Direction};
 ghost use Rattle.hull.specs.declared.face.Weight.{Weight};
 ghost use Rattle.hull.specs.Weights.{divided};
 ghost use Rattle.support.specs.Supports.{reach_on};
 ghost use Rattle.support.specs.Exchange.{InAnyOrderAs};
 ghost use Rattle.support.proofs.FacedLaws.{Decomposes};
+ghost use Rattle.faced.specs.declared.hulls.FacedHull.{FacedHull};
+ghost use Rattle.faced.specs.Hulls.{FitsOn};
 
 use hull::{Direction, FaceWeight};
 
@@ -20,6 +23,12 @@ pub trait Weighted<const N: usize> {
     ghost weights: { Direction → List Weight };
 
     ghost decomposes: { (u : Direction) → Decomposes u N (weights u) };
+
+    // which lists a hull fits, by the kind's own definition
+    ghost fits: { FacedHull N → List Corner → Type 0 };
+
+    // those whose support values on the first N faces it keeps, and no others
+    ghost supported: { (h : FacedHull N) (c : List Corner) → fits h c ↔ FitsOn N h c };
 
     // what the kind makes of weights on the axes, the largest first
     ghost arranged: { List Weight → List Weight };

@@ -46,25 +46,32 @@ ranges n e h =
       range_at shift_limit 9 n (lit< tt) t.0 t.1.0 t.1.1.0,
     )
 
--- the m elements from place i on as calls are given them, where each is a word
-abbrev pub words : ℕ → ℕ → List ℤ → List ℤ
-words zero i n = []
-words (suc m) i n = to_z w64 (of_z w64 (get_or n i (pos 0))) ∷ words m (i + 1) n
+-- three entries are those from place i on
+abbrev pub SameAt : ℤ → ℤ → ℤ → ℕ → List ℤ → Type 0
+SameAt x y z i n = (x ≡ get_or n i (pos 0)) × (y ≡ get_or n (i + 1) (pos 0)) × (z ≡ get_or n (i + 2) (pos 0))
 
+pub entries_are : (p : Placement) (n : List ℤ) → length n ≡ 12 → SameAt p.x.x p.x.y p.x.z 0 n → SameAt p.y.x p.y.y p.y.z 3 n → SameAt p.z.x p.z.y p.z.z 6 n → SameAt p.shift.x p.shift.y p.shift.z 9 n → entries p ≡ n
+entries_are p n e x y z t = row x (row y (row z (row t refl))) ∙ twelve n e
+  where
+    row : {x y z x' y' z' : ℤ} {xs ys : List ℤ} → (x ≡ x') × (y ≡ y') × (z ≡ z') → xs ≡ ys → x ∷ y ∷ z ∷ xs ≡ x' ∷ y' ∷ z' ∷ ys
+    row h k = ap₂ ◌∷◌ h.0 (ap₂ ◌∷◌ h.1 (ap₂ ◌∷◌ h.2 k))
+
+-- the m elements from place i on are words
 abbrev pub Words : ℕ → ℕ → List ℤ → Type 0
 Words zero i n = Unit
 Words (suc m) i n = SFits w64 (get_or n i (pos 0)) × Words m (i + 1) n
 
-words_are : (m i : ℕ) (n : List ℤ) → Words m i n → words m i n ≡ spelled m i n
-words_are zero i n f = refl
-words_are (suc m) i n f = ap₂ ◌∷◌ (to_z-of_z w64 (get_or n i (pos 0)) f.0) (words_are m (i + 1) n f.1)
-
 -- three entries are those from place i on, as a call is given them
-abbrev pub SameAt : ℤ → ℤ → ℤ → ℕ → List ℤ → Type 0
-SameAt x y z i n = (x ≡ to_z w64 (of_z w64 (get_or n i (pos 0)))) × (y ≡ to_z w64 (of_z w64 (get_or n (i + 1) (pos 0)))) × (z ≡ to_z w64 (of_z w64 (get_or n (i + 2) (pos 0))))
+abbrev pub GivenAt : ℤ → ℤ → ℤ → ℕ → List ℤ → Type 0
+GivenAt x y z i n = (x ≡ to_z w64 (of_z w64 (get_or n i (pos 0)))) × (y ≡ to_z w64 (of_z w64 (get_or n (i + 1) (pos 0)))) × (z ≡ to_z w64 (of_z w64 (get_or n (i + 2) (pos 0))))
 
-pub entries_are : (p : Placement) (n : List ℤ) → length n ≡ 12 → Words 12 0 n → SameAt p.x.x p.x.y p.x.z 0 n → SameAt p.y.x p.y.y p.y.z 3 n → SameAt p.z.x p.z.y p.z.z 6 n → SameAt p.shift.x p.shift.y p.shift.z 9 n → entries p ≡ n
-entries_are p n e f x y z t = row x (row y (row z (row t refl))) ∙ words_are 12 0 n f ∙ twelve n e
-  where
-    row : {x y z x' y' z' : ℤ} {xs ys : List ℤ} → (x ≡ x') × (y ≡ y') × (z ≡ z') → xs ≡ ys → x ∷ y ∷ z ∷ xs ≡ x' ∷ y' ∷ z' ∷ ys
-    row h k = ap₂ ◌∷◌ h.0 (ap₂ ◌∷◌ h.1 (ap₂ ◌∷◌ h.2 k))
+same_at : (x y z : ℤ) (i : ℕ) (n : List ℤ) → SFits w64 (get_or n i (pos 0)) → SFits w64 (get_or n (i + 1) (pos 0)) → SFits w64 (get_or n (i + 2) (pos 0)) → GivenAt x y z i n → SameAt x y z i n
+same_at x y z i n a b c h =
+    (h.0 ∙ to_z-of_z w64 (get_or n i (pos 0)) a, h.1 ∙ to_z-of_z w64 (get_or n (i + 1) (pos 0)) b, h.2 ∙ to_z-of_z w64 (get_or n (i + 2) (pos 0)) c)
+
+pub entries_given : (p : Placement) (n : List ℤ) → length n ≡ 12 → Words 12 0 n → GivenAt p.x.x p.x.y p.x.z 0 n → GivenAt p.y.x p.y.y p.y.z 3 n → GivenAt p.z.x p.z.y p.z.z 6 n → GivenAt p.shift.x p.shift.y p.shift.z 9 n → entries p ≡ n
+entries_given p n e f x y z t =
+    let g = f.1.1.1 in
+    let h = g.1.1.1 in
+    let k = h.1.1.1 in
+    entries_are p n e (same_at p.x.x p.x.y p.x.z 0 n f.0 f.1.0 f.1.1.0 x) (same_at p.y.x p.y.y p.y.z 3 n g.0 g.1.0 g.1.1.0 y) (same_at p.z.x p.z.y p.z.z 6 n h.0 h.1.0 h.1.1.0 z) (same_at p.shift.x p.shift.y p.shift.z 9 n k.0 k.1.0 k.1.1.0 t)

@@ -129,19 +129,19 @@ module _ (u : Direction) (n : ℕ) (ws : List Weight) (d : Decomposes u n ws) (g
       chain : (a b z : ℤ) (m : ℕ) → a ≤ℤ (b +ℤ pos (3 * size u + rounding)) → b ≤ℤ (z +ℤ pos m) → m ≡ size u * s → a ≤ℤ (z +ℤ pos (3 * (size u * (s + 8)) + slack))
       chain a b z m f g q = omega (arith, ints, NatL.mul-add (size u) s 8)
 
--- a kind of hull with the first n faces, by the weights that it gives to directions; no support values are those of the empty list
-module _ {n : ℕ} (weights : Direction → List Weight) (decomposes : (u : Direction) → Decomposes u n (weights u)) (g : List ℤ) where
-  pub covers : (c : List Corner) (u : Direction) → Supports n g c → Covers (reach_on (weights u) g) u c
+-- no support values are those of the empty list
+module _ (u : Direction) (n : ℕ) (ws : List Weight) (d : Decomposes u n ws) (g : List ℤ) where
+  pub covers : (c : List Corner) → Supports n g c → Covers (reach_on ws g) u c
   unfolding Supports
-  covers [] u h = absurd h
-  covers (p ∷ c) u h = covers_from u n (weights u) (decomposes u) g p c h
+  covers [] h = absurd h
+  covers (p ∷ c) h = covers_from u n ws d g p c h
 
-  pub tight : (c : List Corner) (u : Direction) (s : ℕ) → Supports n g c → Spread s c → Tight (reach_on (weights u) g) u s c
+  pub tight : (c : List Corner) (s : ℕ) → Supports n g c → Spread s c → Tight (reach_on ws g) u s c
   unfolding Supports
-  tight [] u s h l = absurd h
-  tight (p ∷ c) u s h l = tight_from u n (weights u) (decomposes u) g p c h s l
+  tight [] s h l = absurd h
+  tight (p ∷ c) s h l = tight_from u n ws d g p c h s l
 
-  pub rounds : (c : List Corner) (u : Direction) → Supports n g c → Rounds (reach_on (weights u) g) (unrounded_on (weights u) c) u
+  pub rounds : (c : List Corner) → Supports n g c → Rounds (reach_on ws g) (unrounded_on ws c) u
   unfolding Supports
-  rounds [] u h = absurd h
-  rounds (p ∷ c) u h = rounds_from u n (weights u) (decomposes u) g p c h
+  rounds [] h = absurd h
+  rounds (p ∷ c) h = rounds_from u n ws d g p c h

@@ -2,12 +2,13 @@ use Rattle.std.proofs.Common.{◌<◌, List, sym, ap, ◌∙◌, subst, rules, w
 use Rattle.std.specs.List.{AllByRecursion}
 use Rattle.std.proofs.lemmas.Int.{to_z-of_z}
 use Rattle.hull.specs.declared.face.FaceWeight.{FaceWeight}
+use Rattle.support.proofs.FacedLaws.{Decomposes}
 use Rattle.faced.specs.Terms.{terms}
 use Rattle.faced.proofs.Reaches.{terms_reach, faces_within}
 use Rattle.faced.proofs.hulls.FacedHullHull.reach.Goals as goal
 
 pub reach_along-requires : goal.reach_along-requires
-reach_along-requires g c = (search rules, subst (λ (ws : List FaceWeight). AllByRecursion (λ (w : FaceWeight). w.face < g.row.N) ws) (sym c.weights_of.ensures) (faces_within c.args.u.now g.row.N _ (search rules)))
+reach_along-requires g c = (search rules, subst (λ (ws : List FaceWeight). AllByRecursion (λ (w : FaceWeight). w.face < g.row.N) ws) (sym c.weights_of.ensures) (let d : Decomposes c.args.u.now g.row.N _ = search rules in faces_within g.row.N _ d.listed))
 
 pub returns : goal.returns
 returns g c =

@@ -1,5 +1,5 @@
 use Rattle.std.proofs.Common.{rules, arith}
-use Rattle.placement.proofs.Numbers.{entries_are, ranges}
+use Rattle.placement.proofs.Numbers.{entries_given, ranges}
 use Rattle.placement.proofs.parts.Placement.new.Goals as goal
 
 pub returns-in_err-x : goal.returns-in_err-x
@@ -16,4 +16,4 @@ returns-in_err-shift c = grind (arith, ranges c.args.n (search rules))
 
 pub returns : goal.returns
 returns c =
-    entries_are (record { x = c.in_ok-x.x; y = c.in_ok-y.y; z = c.in_ok-z.z; shift = c.in_ok-shift.shift }) c.args.n (search rules) (search rules) c.in_ok-x.ensures c.in_ok-y.ensures c.in_ok-z.ensures c.in_ok-shift.ensures
+    entries_given (record { x = c.in_ok-x.x; y = c.in_ok-y.y; z = c.in_ok-z.z; shift = c.in_ok-shift.shift }) c.args.n (search rules) (search rules) c.in_ok-x.ensures c.in_ok-y.ensures c.in_ok-z.ensures c.in_ok-shift.ensures
