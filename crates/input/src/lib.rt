@@ -1,6 +1,9 @@
 // Reads the bytes of a job.
 #![tactic(auto)]
 
+#[cfg(test)]
+mod tests;
+
 ghost use Rattle.std.specs.Prelude.{◌≡◌, ◌+◌, ◌≤◌, length, take, IfOk, IfSome};
 ghost use Rattle.jobtext.specs.Words.{job_limit};
 
