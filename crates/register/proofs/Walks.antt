@@ -1,5 +1,6 @@
 -- A turn of the walk over the places of two objects.
-use Rattle.std.proofs.Common.{◌≡◌, ℕ, ◌+◌, ◌*◌, ◌<◌, ◌≤◌, true, false, List, [], ◌∷◌, ◌++◌, length, get_or, set, ℤ, Err, sym, ◌∙◌, mul-le-mul, arith}
+use Rattle.std.proofs.Common.{◌≡◌, ℕ, ◌+◌, ◌*◌, ◌<◌, ◌≤◌, true, false, List, [], ◌∷◌, ◌++◌, length, take, get_or, set, ℤ, Ok, Err, sym, ◌∙◌, mul-le-mul, arith}
+use Rattle.std.proofs.lemmas.List.{length-take}
 use Rattle.hull.specs.declared.direction.Direction.{Direction}
 use Rattle.placement.specs.declared.parts.Placement.{Placement}
 use Rattle.pairs.specs.Gaps.{Parted}
@@ -13,6 +14,7 @@ use Rattle.walks.proofs.State.{Walked, Walks, State, Stands, Taken, Goes}
 use Rattle.walks.proofs.State as state
 use Rattle.register.specs.declared.place.Place.{Place}
 use Rattle.register.specs.Tables.{items_of, hulls_of}
+use Rattle.register.specs.Comparing.{WalkStored}
 use Rattle.register.proofs.Fields.{length_items, length_hulls}
 use Rattle.register.proofs.Reading.{item_is, hull_is}
 
@@ -28,6 +30,10 @@ module _ {H : Type 0} (reaches : H → Direction → ℤ) (moved standing : List
   abbrev pub popped : complete (items_of moved) ≡ true → complete (items_of standing) ≡ true → (before waiting list ws : List (ℕ × ℕ)) (count tests i j : ℕ) → waiting ≡ ws ++ (i, j) ∷ [] → State walked_of before waiting list count tests → Taken walked_of
   popped a b before waiting list ws count tests i j held s =
       record { stands = stands a b; before = before; waiting = waiting; list = list; ws = ws; count = count; tests = tests; i = i; j = j; held = held; state = s }
+
+  -- where nothing waits, the walk is done
+  pub ended : (before places list : List (ℕ × ℕ)) (n count tests : ℕ) → n ≡ 0 → State walked_of before (take n places) list count tests → WalkedInto (WalkStored reaches moved standing p) before list (Ok (count, tests))
+  ended before places list n count tests e s = let z : length (take n places) ≡ 0 = omega (arith, length-take n places, e) in state.done walked_of z s
 
   module _ (k : Taken walked_of) where
     pub in_moved : k.i < length moved

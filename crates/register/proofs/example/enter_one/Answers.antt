@@ -1,5 +1,7 @@
-use Rattle.std.proofs.Common.{◌≡◌, Ok}
+use Rattle.std.proofs.Common.{◌≡◌, ℕ, Result, Ok, sym, subst}
+use Rattle.book.specs.declared.refusal.Refusal.{Refusal}
 use Rattle.std.proofs.lemmas.Result.{err_from_is_err_and}
+use Rattle.register.specs.Registers.{book_of, FiledAlone}
 use Rattle.register.proofs.Alone.{not_started, dropped, not_dropped, closes, table_stands}
 use Rattle.register.proofs.example.enter_one.Goals as goal
 
@@ -16,7 +18,7 @@ returns-in-Ok-clause-book g c =
     let d = c.close.ensures in
     let k = closes _ _ _ s.said _ _ s.marked f.back _ _ f.said _ c.in-Ok.is _ _ d.said in
     let m : c.map_err.result ≡ Ok k.0 = rw k.1 at c.map_err.ensures.cases in
-    rw m k.2
+    subst (λ (r : Result ℕ Refusal). FiledAlone (book_of c.args.register.now) c.args.numbers r (book_of c.close.new.register)) (sym m) k.2
 
 pub returns-in-Ok-clause-table : goal.returns-in-Ok-clause-table
 returns-in-Ok-clause-table g c =
