@@ -2,11 +2,12 @@
 ghost use Rattle.std.specs.Prelude.{◌≡◌, ◌<◌, slice_index_or};
 ghost use Rattle.integers.specs.Rounding.{div_down};
 ghost use Rattle.pairs.specs.Units.{fixed_count, axis_count, axis_unit};
+ghost use Rattle.pairs.specs.Gaps.{rounded_axis};
 ghost use Rattle.pairs.specs.Axes.{fixed_axes, no_fixed, turned_entry, turned, axis_at};
 
 use super::directions::{product, separating_axis};
 use super::table::Axes;
-use pairs::{Axis, FixedAxis};
+use pairs::{Axis, FixedAxis, SeparatingAxis};
 use placement::{Placement, Row};
 use std::array;
 
@@ -84,7 +85,12 @@ impl Axes {
     pub fn new(p: Placement) -> Axes
         ensures { result.placement ≡ p }
     {
-        let each = array::from_fn(|i| separating_axis(&p, &axis_of(&p, i)));
+        let each = array::from_fn(
+            |i| -> SeparatingAxis
+                requires { i < axis_count }
+                ensures { result ≡ rounded_axis p (axis_at p i) }
+            { separating_axis(&p, &axis_of(&p, i)) },
+        );
         Axes { placement: p, each }
     }
 }

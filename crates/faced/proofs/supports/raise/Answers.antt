@@ -1,25 +1,16 @@
-use Rattle.std.proofs.Common.{◌≡◌, ◌<◌, ◌≤◌, List, length, get_or, set, ℤ, pos, ap, ◌∙◌, ap₂, w16, SFits, rules}
-use Rattle.std.proofs.lemmas.Int.{to_z-of_z}
+use Rattle.std.proofs.Common.{◌≡◌, ℕ, ◌+◌, ◌<◌, ◌≤◌, List, length, get_or, set, ℤ, pos, ap, ◌∙◌, ap₂, rules}
 use Rattle.std.specs.Int.{int_max}
-use Rattle.support.specs.Supports.{supports}
-use Rattle.support.proofs.Tables.{raised_read, raised_more, raised_all, supports_length}
+use Rattle.support.proofs.Tables.{raised_to, raised_read, raised_more, raised_all, supports_length}
 use Rattle.faced.proofs.supports.raise.Goals as goal
 
+-- one more support value is raised
+raised_step : (i : ℕ) (g s vs : List ℤ) (z : ℤ) → vs ≡ raised_to i g s → i < length g → length g ≤ length s → z ≡ int_max (get_or vs i (pos 0)) (get_or s i (pos 0)) → set vs i z ≡ raised_to (i + 1) g s
+raised_step i g s vs z so_far h l is =
+    let old : get_or vs i (pos 0) ≡ get_or g i (pos 0) = ap (λ (k : List ℤ). get_or k i (pos 0)) so_far ∙ raised_read i g s h l in
+    ap₂ (λ (k : List ℤ) (y : ℤ). set k i y) so_far (is ∙ ap (λ (y : ℤ). int_max y (get_or s i (pos 0))) old) ∙ raised_more i g s h l
+
 pub loop-i-preserved : goal.loop-i-preserved
-loop-i-preserved g c =
-    let v = c.args.values.now in
-    let s = supports c.args.p.now in
-    let i = c.loop-i.i in
-    let n : length c.args.values.now ≡ g.row.N = search rules in
-    let h : c.loop-i.i < length c.args.values.now = rw n c.loop-i-test.true in
-    let l : length c.args.values.now ≤ length (supports c.args.p.now) = rw (supports_length c.args.p.now, n) c.requires in
-    let fv : SFits w16 (get_or c.loop-i.values c.loop-i.i (pos 0)) = search rules in
-    let fs : SFits w16 c.support_of.result = record { sfits = c.support_of.type_inv } in
-    let fm : SFits w16 c.max.result = record { sfits = c.max.type_inv } in
-    let m : c.max.result ≡ int_max (get_or c.loop-i.values c.loop-i.i (pos 0)) c.support_of.result = simp to_z-of_z at c.max.ensures.value in
-    let old : get_or c.loop-i.values c.loop-i.i (pos 0) ≡ get_or v i (pos 0) = ap (λ (k : List ℤ). get_or k i (pos 0)) c.loop-i.invariant ∙ raised_read i v s h l in
-    ap₂ (λ (k : List ℤ) (z : ℤ). set k i z) c.loop-i.invariant (to_z-of_z w16 c.max.result fm ∙ m ∙ ap₂ int_max old c.support_of.ensures)
-    ∙ raised_more i v s h l
+loop-i-preserved g c = search (rules, raised_step, supports_length)
 
 pub returns : goal.returns
 returns g c =

@@ -1,7 +1,5 @@
-use Rattle.std.proofs.Common.{◌≡◌, ℕ, Result, Ok, sym, subst}
-use Rattle.book.specs.declared.refusal.Refusal.{Refusal}
+use Rattle.std.proofs.Common.{arith}
 use Rattle.std.proofs.lemmas.Result.{err_from_is_err_and}
-use Rattle.register.specs.Registers.{book_of, FiledAlone}
 use Rattle.register.proofs.Alone.{not_started, dropped, not_dropped, closes, table_stands}
 use Rattle.register.proofs.example.enter_one.Goals as goal
 
@@ -17,8 +15,7 @@ returns-in-Ok-clause-book g c =
     let f = c.facet-answer.ensures in
     let d = c.close.ensures in
     let k = closes _ _ _ s.said _ _ s.marked f.back _ _ f.said _ c.in-Ok.is _ _ d.said in
-    let m : c.map_err.result ≡ Ok k.0 = rw k.1 at c.map_err.ensures.cases in
-    subst (λ (r : Result ℕ Refusal). FiledAlone (book_of c.args.register.now) c.args.numbers r (book_of c.close.new.register)) (sym m) k.2
+    grind (arith, k.1)
 
 pub returns-in-Ok-clause-table : goal.returns-in-Ok-clause-table
 returns-in-Ok-clause-table g c =
@@ -26,8 +23,8 @@ returns-in-Ok-clause-table g c =
     let f = c.facet-answer.ensures in
     let d = c.close.ensures in
     let k = closes _ _ _ s.said _ _ s.marked f.back _ _ f.said _ c.in-Ok.is _ _ d.said in
-    let m : c.map_err.result ≡ Ok k.0 = rw k.1 at c.map_err.ensures.cases in
-    rw m (table_stands c.args.register.now c.start.new.self c.facet-answer.new.register c.close.new.register s.table d.table g.H.Hull.begun g.H.Hull.grown _ _ f.place _ c.in-Ok.is s.said)
+    let t = table_stands c.args.register.now c.start.new.self c.facet-answer.new.register c.close.new.register s.table d.table g.H.Hull.begun g.H.Hull.grown _ _ f.place _ c.in-Ok.is s.said in
+    grind (arith, k.1, t)
 
 pub returns-in-Ok-drop-clause-book : goal.returns-in-Ok-drop-clause-book
 returns-in-Ok-drop-clause-book g c =

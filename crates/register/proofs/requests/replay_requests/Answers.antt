@@ -1,4 +1,4 @@
-use Rattle.std.proofs.Common.{◌≡◌, ℕ, ◌+◌, ◌<◌, min, List, length, map, get_or, take, drop, set, sym, refl, ap, ◌∙◌, subst, subst₂, arith}
+use Rattle.std.proofs.Common.{◌≡◌, ℕ, ◌+◌, ◌<◌, min, List, length, map, get_or, take, drop, set, sym, refl, ap, ◌∙◌, subst, subst₂, rules, arith}
 use Rattle.std.proofs.lemmas.List.{length-map, length-take, get_or-map, get_or-take, drop-set-lt, drop-drop}
 use Rattle.book.specs.declared.call.Answer.{Answer}
 use Rattle.book.specs.Books.{Book}
@@ -15,9 +15,9 @@ loop-i-init g c = record { running = running_none _ _ _ _ _ _ _ _; kept = refl }
 kept_set : (before answers : List Answer) (i : ℕ) (a : Answer) → drop i answers ≡ drop i before → drop (i + 1) (set answers i a) ≡ drop (i + 1) before
 kept_set before answers i a e = drop-set-lt (i + 1) answers i a (omega arith) ∙ (sym (drop-drop 1 i answers) ∙ (ap (drop 1) e ∙ drop-drop 1 i before))
 
--- what is asked, as it is read from the first ones
-read : {X Y : Type 0} (f : X → Y) (xs : List X) (n i : ℕ) (x : X) → i < n → i < length xs → x ≡ get_or (take n xs) i x → (y : Y) → get_or (map f xs) i y ≡ f x
-read f xs n i x m l is y = get_or-map f xs i x y l ∙ ap f (sym (is ∙ get_or-take n xs i x m))
+-- what the item at a place asks, by whatever number the place is told
+asked_at : {X Y : Type 0} (f : X → Y) (xs : List X) (i j : ℕ) (x : X) (y : Y) → i < length xs → x ≡ get_or xs j x → j ≡ i → y ≡ f x → get_or (map f xs) i y ≡ y
+asked_at f xs i j x y l is at e = get_or-map f xs i x y l ∙ (ap f (sym (is ∙ ap (λ (k : ℕ). get_or xs k x) at)) ∙ sym e)
 
 pub loop-i-preserved : goal.loop-i-preserved
 loop-i-preserved g c =
@@ -28,7 +28,8 @@ loop-i-preserved g c =
     let l : c.loop-i.i < length c.args.requests.now = omega (arith, n, c.min-count.ensures) in
     let hr : c.loop-i.i < length rs = omega (arith, l, length-map xs g.R.Asked.asked) in
     let ha : c.loop-i.i < length c.loop-i.answers = omega (arith, n, c.min-count.ensures, c.loop-i.auto.answers) in
-    let is = read g.R.Asked.asked xs _ i c.asked-item.result n l c.asked-item.is c.request.result ∙ sym c.request.ensures in
+    let item : c.asked-item.result ≡ get_or xs i c.asked-item.result = c.asked-item.is ∙ get_or-take _ xs i _ n in
+    let is : get_or rs i c.request.result ≡ c.request.result = search (rules, asked_at) in
     elim c.match-request.branch [
       | in-Write w ↦ rw (w.lists-is, w.register-is, w.from-is, w.answer-is) (record {
         running = next_write _ _ _ _ _ _ _ _ rs c.loop-i.answers i hr ha c.loop-i.from c.loop-i.lists _ w.in-Write.call w.make-answer.result (is ∙ w.in-Write.is) c.loop-i.invariant.running w.make-answer.ensures;
