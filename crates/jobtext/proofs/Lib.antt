@@ -4,5 +4,6 @@ pub mod Fronts
 pub mod Meaning
 pub mod Numerals
 pub mod Rows
+pub mod Same
 pub mod Told
 pub mod Writing

@@ -1,5 +1,5 @@
 // The replay of a history at each kind of hull: the one replay of `register`, with the kind's own rules in the contract.
-#![tactic(auto)]
+#![tactic(auto, using(crate::proofs::Asking::replayed_requests))]
 
 ghost use Rattle.std.specs.Prelude.{pos, length};
 ghost use Rattle.faced.specs.Hulls.{box_begun, box_grown, box_reach, box_unrounded, many_begun, many_grown, many_reach, many_unrounded};

@@ -1,5 +1,5 @@
 -- A history of requests that are all calls that write.
-use Rattle.std.proofs.Common.{◌≡◌, ℕ, min, List, [], ◌∷◌, map, length, take, ℤ, subst}
+use Rattle.std.proofs.Common.{◌≡◌, ℕ, min, List, [], ◌∷◌, map, length, take, ℤ, ap, ◌∙◌, subst}
 use Rattle.std.proofs.lemmas.List.{length-map, take-map}
 use Rattle.hull.specs.declared.corner.Corner.{Corner}
 use Rattle.hull.specs.declared.direction.Direction.{Direction}
@@ -22,13 +22,14 @@ module _ {H : Type 0} (begun : Corner → H) (grown : H → Corner → H) (reach
       let is : made ≡ call = cc in more (subst (λ (x : Call). Said b x answer c) is s) (ran_calls calls r (cc))
   ran_calls (call ∷ calls) (request.asked s r) e = cc
 
-  pub replayed_calls : (mark table : ℕ) (calls : List Call) (before after : List Answer) (places : ℕ) (lists_before lists : List (ℕ × ℕ))
-      → request.Replayed begun grown reaches faced unrounded mark table (map Write calls) before after places lists_before lists → Replayed mark table calls before after
-  replayed_calls mark table calls before after places lists_before lists r =
+  -- the replay of requests that are the calls is the replay of the calls
+  pub replayed_calls : (mark table : ℕ) (calls : List Call) (requests : List Request) (before after : List Answer) (places : ℕ) (lists_before lists : List (ℕ × ℕ))
+      → request.Replayed begun grown reaches faced unrounded mark table requests before after places lists_before lists → requests ≡ map Write calls → Replayed mark table calls before after
+  replayed_calls mark table calls requests before after places lists_before lists r is =
       let n : ℕ = min (length calls) (length before) in
-      let m = length-map calls Write in
+      let m : length requests ≡ length calls = ap length is ∙ length-map calls Write in
       record {
         last = r.last;
-        ran = ran_calls (take n calls) (rw m at r.ran) (take-map Write n calls);
+        ran = ran_calls (take n calls) (rw m at r.ran) (ap (take n) is ∙ take-map Write n calls);
         kept = rw m at r.answers_kept;
       }

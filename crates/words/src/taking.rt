@@ -169,6 +169,7 @@ impl<'a> Words<'a> {
     }
 
     // The section of the kind is due.
+    #[tactic(auto, unfolding(jobtext::specs::Readings::headed))]
     pub fn kind(&mut self) -> Result<Kind, Fault>
         ensures { Reads (headed kind_of KindSection self.old.left) result self.new.left }
     {
@@ -177,6 +178,7 @@ impl<'a> Words<'a> {
     }
 
     // The name and the count of a section are due.
+    #[tactic(auto, unfolding(jobtext::specs::Readings::headed))]
     pub fn count(&mut self, section: Section) -> Result<u64, Fault>
         ensures section { self.new.section ≡ section }
         ensures taken { OnOk result (self.new.taken ≡ 2) }
@@ -197,6 +199,7 @@ impl<'a> Words<'a> {
     }
 
     // So many numbers are due.
+    #[tactic(auto, using(crate::proofs::Rows::numbers_first, jobtext::proofs::Told::numbers_cases))]
     pub fn numbers<const N: usize>(&mut self) -> Result<[i64; N], Fault>
         ensures section { self.new.section ≡ self.old.section }
         ensures taken { OnOk result (self.new.taken ≡ self.old.taken + N) }
@@ -211,6 +214,7 @@ impl<'a> Words<'a> {
     }
 
     // No word is due any more.
+    #[tactic(auto, unfolding(jobtext::specs::Readings::finished))]
     pub fn end(&mut self) -> Result<(), Fault>
         ensures ends { MatchResult result (λ _. finished self.old.section (self.old.taken + 1) self.old.left ≡ still (Ok [])) (λ e. finished self.old.section (self.old.taken + 1) self.old.left ≡ still (Err e)) }
         ensures cases { MatchResult result (λ _. self.old.left ≡ []) (λ e. (self.old.left ≢ []) × (e ≡ found WrongLength self.old.section (self.old.taken + 1))) }

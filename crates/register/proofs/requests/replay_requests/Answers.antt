@@ -15,7 +15,7 @@ loop-i-init g c = record { running = running_none _ _ _ _ _ _ _ _; kept = refl }
 kept_set : (before answers : List Answer) (i : ℕ) (a : Answer) → drop i answers ≡ drop i before → drop (i + 1) (set answers i a) ≡ drop (i + 1) before
 kept_set before answers i a e = drop-set-lt (i + 1) answers i a (omega arith) ∙ (sym (drop-drop 1 i answers) ∙ (ap (drop 1) e ∙ drop-drop 1 i before))
 
--- what the item at a place asks, by whatever number the place is told
+-- what the item at a place asks, whatever number names the place; get_or falls back on that answer itself
 asked_at : {X Y : Type 0} (f : X → Y) (xs : List X) (i j : ℕ) (x : X) (y : Y) → i < length xs → x ≡ get_or xs j x → j ≡ i → y ≡ f x → get_or (map f xs) i y ≡ y
 asked_at f xs i j x y l is at e = get_or-map f xs i x y l ∙ (ap f (sym (is ∙ ap (λ (k : ℕ). get_or xs k x) at)) ∙ sym e)
 
